@@ -1,0 +1,4 @@
+use Rattle.console.proofs.reading.update_text.Needs as need
+
+pub returns : need.returns
+returns c = simp (c .in-Continue-imsi .ensures tt, c .in-Continue-msc .ensures tt, c .in-Continue-vlr .ensures tt, c .in-Continue-lmsi .ensures tt) at (c .format .ensures .made)

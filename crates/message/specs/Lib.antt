@@ -1,0 +1,4 @@
+pub mod Kinds
+pub mod Writing
+pub mod Messages
+pub mod Worked
