@@ -1,7 +1,7 @@
 -- Values of the type Digits.
 use mathlib.Core.Path.{_≡_, refl}
 use mathlib.Core.Bool.{Bool, true, false}
-use mathlib.Core.List.{List}
+use mathlib.Core.List.{List, [], _∷_}
 use Prim.Native.Nat.{ℕ}
 use lib.ListN.{length, take}
 use Rattle.std.specs.shelf.Text.{sameBytes}
@@ -36,3 +36,7 @@ octetsIn p = take (p .len) (p .octets)
 -- whether two values hold the same digits
 abbrev pub sameDigits : Digits → Digits → Bool
 sameDigits x y = sameBytes (digitsIn x) (digitsIn y)
+
+-- the single digit 0
+abbrev pub zeroDigits : Digits
+zeroDigits = holding (0 ∷ []) refl

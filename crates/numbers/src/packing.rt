@@ -2,7 +2,7 @@
 ghost use mathlib.Core.Path.{_≡_};
 ghost use Prim.Native.Nat.{ℕ, _*_, _<_, _≤_};
 ghost use lib.ListN.{length, getD};
-ghost use Rattle.numbers.specs.Digit.{digitsIn, octetsIn};
+ghost use Rattle.numbers.specs.Digit.{digitsIn, octetsIn, zeroDigits};
 ghost use Rattle.numbers.specs.Packing.{packed, octetAt};
 use super::digits::Digits;
 use super::packed::PackedDigits;
@@ -22,6 +22,16 @@ fn octet(digits: &[u8], i: usize) -> u8
 }
 
 impl Digits {
+    // The single digit 0.
+    pub fn zero() -> Digits
+        ensures { λ r. ⌜ r ≡ zeroDigits ⌝ }
+    {
+        Digits {
+            digits: [0; 15],
+            len: 1,
+        }
+    }
+
     pub fn as_slice(&self) -> &[u8]
         ensures digits { λ r. ⌜ now r ≡ digitsIn (now (self .entry)) ⌝ }
         ensures few { λ r. ⌜ length (now r) ≤ 15 ⌝ }

@@ -1,0 +1,5 @@
+pub mod Once
+pub mod Holding
+pub mod Codes
+pub mod Profile
+pub mod Stay
