@@ -1,0 +1,64 @@
+// The circuit side.
+ghost use mathlib.Core.Path.{_≡_};
+ghost use Rattle.side.specs.Sides.{circuitMeaning};
+use super::side::Side;
+use message::kinds::AccessMode;
+use numbers::address::Lmsi;
+use numbers::node::NodeNumber;
+use operation::codes::Operation;
+use operation::user_error::Diagnostic;
+use subscription::making::no_circuit;
+use subscription::stay::Location;
+use subscription::stay::Record;
+use subscription::stay::CircuitStay;
+
+#[derive(Clone, Copy)]
+pub struct Circuit;
+
+pub impl Side for Circuit as CircuitSide {
+    type Stay = CircuitStay;
+
+    ghost meaning = { circuitMeaning };
+
+    fn location(subscriber: &Record) -> Location<CircuitStay> {
+        subscriber.circuit
+    }
+
+    fn replace(subscriber: Record, location: Location<CircuitStay>) -> Record
+        ensures { λ r. ⌜ r ≡ circuitMeaning .replaced subscriber location ⌝ }
+    {
+        Record {
+            circuit: location,
+            ..subscriber
+        }
+    }
+
+    fn absent() -> Location<CircuitStay> {
+        no_circuit()
+    }
+
+    fn node(stay: &CircuitStay) -> NodeNumber {
+        NodeNumber {
+            digits: stay.vlr.digits,
+        }
+    }
+
+    fn lmsi(stay: &CircuitStay) -> Option<Lmsi> {
+        stay.lmsi
+    }
+
+    fn served(mode: AccessMode) -> bool {
+        match mode {
+            AccessMode::Both | AccessMode::CircuitOnly => true,
+            AccessMode::PacketOnly => false,
+        }
+    }
+
+    fn unserved() -> Diagnostic {
+        Diagnostic::ImsiUnknown
+    }
+
+    fn operation() -> Operation {
+        Operation::UpdateLocation
+    }
+}
