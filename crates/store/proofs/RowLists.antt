@@ -1,7 +1,7 @@
 -- Rows as a list of records.
 use mathlib.Core.Path.{_≡_, refl, sym, ap, subst, fun-ext, _∙_}
 use mathlib.Core.Bool.{Bool, true, false, cond, _&&_, _||_, not}
-use mathlib.Core.List.{List, [], _∷_}
+use mathlib.Core.List.{List, [], _∷_, map}
 use Prim.Native.Nat.{ℕ, suc, _+_}
 use native.Mathlib.Omega.{arith}
 use lib.ListN.{length}
@@ -11,9 +11,10 @@ use Rattle.std.proofs.shelf.Tests.{and-parts, and-from}
 use Rattle.numbers.specs.declared.imsi.Imsi.{Imsi}
 use Rattle.subscription.specs.declared.stay.Record.{Record}
 use Rattle.store.specs.Records.{same, recordOf, once}
-use Rattle.store.specs.Calls.{Put, Deleted}
+use Rattle.store.specs.Calls.{Put, Deleted, imsiFound}
+use Rattle.store.proofs.Keys.{same-decides}
 use Rattle.store.specs.declared.row.Row.{Row}
-use Rattle.store.specs.Rows.{has, lookup, unused, distinct, recordsIn}
+use Rattle.store.specs.Rows.{has, lookup, unused, distinct, recordsIn, freed}
 
 pub records-count : (ws : List Row) → length (recordsIn ws) + unused ws ≡ length ws
 records-count [] = refl
@@ -54,3 +55,17 @@ pub deleted-in-list : (ws vs : List Row) (k : Imsi) (was : Bool) → Deleted (lo
 deleted-in-list ws vs k was p =
     subst (λ f. Deleted f (unused ws) k was (recordOf (recordsIn vs)) (unused vs)) (sym (found-in-rows ws))
     (subst (λ g. Deleted (lookup ws) (unused ws) k was g (unused vs)) (sym (found-in-rows vs)) p)
+
+-- a record that is found has the IMSI that was sought
+pub found-keyed : (ws : List Row) (k : Imsi) → imsiFound (lookup ws k) k ≡ k
+found-keyed [] k = refl
+found-keyed (w ∷ ws) k = go (has k w) refl (found-keyed ws k)
+  where
+    go : (b : Bool) → has k w ≡ b → imsiFound (lookup ws k) k ≡ k → imsiFound (cond b (Some (w .held)) (lookup ws k)) k ≡ k
+    go true h ih = same-decides (w .held .imsi) k .0 (and-parts (w .used) (same (w .held .imsi) k) h .1)
+    go false h ih = ih
+
+-- rows that are all freed hold no record
+pub all-records : (ws : List Row) → recordsIn (map freed ws) ≡ []
+all-records [] = refl
+all-records (w ∷ ws) = all-records ws
