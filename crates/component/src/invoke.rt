@@ -29,6 +29,6 @@ pub fn read_invoke(octets: &[u8]) -> Result<Invoke, ComponentFault>
     let mut r = whole.inside(outer.start, Layer::Component);
     let id = read_identifier(&mut r)?;
     let request = read_request(&mut r)?;
-    let argument = read_argument(&mut r, request);
+    let argument = read_argument(r, request);
     Ok(Invoke { id, argument })
 }

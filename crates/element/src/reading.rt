@@ -81,11 +81,12 @@ impl<'a> Reader<'a> {
         }
     }
 
-    // The element at the reader's place; the reader then stands after it.
+    // The element at the reader's place; the reader then stands after it. Where none is read the reader stays.
     pub fn next(&mut self) -> Result<Element<'a>, ElementFault>
         ensures read { λ r. ⌜ readOff r (unread (now (self .exit))) ≡ unread (now (self .entry)) ⌝ }
         ensures part { λ r. ⌜ made r (λ e. (e .content .now ≡ between (e .start) (now (self .exit) .at) (now (now (self .entry) .octets))) × (now (self .entry) .at < now (self .exit) .at) × (e .start ≤ now (self .exit) .at)) ⌝ }
         ensures layer { λ r. ⌜ Cases r (λ _. Unit {0}) (λ f. spotOf f .layer ≡ now (self .entry) .layer) ⌝ }
+        ensures stays { λ r. ⌜ Cases r (λ _. Unit {0}) (λ _. now (self .exit) .at ≡ now (self .entry) .at) ⌝ }
         ensures same { λ _. ⌜ now (self .exit) .layer ≡ now (self .entry) .layer ⌝ }
         ensures over { λ _. ⌜ now (now (self .exit) .octets) ≡ now (now (self .entry) .octets) ⌝ }
         ensures end { λ _. ⌜ now (self .exit) .end ≡ now (self .entry) .end ⌝ }

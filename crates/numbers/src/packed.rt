@@ -5,8 +5,8 @@ ghost use lib.ListN.{length};
 // The octets of packed digits.
 #[derive(Clone, Copy)]
 pub struct PackedDigits {
-    pub octets: [u8; 8],
-    pub len: usize,
+    pub(crate) octets: [u8; 8],
+    pub(crate) len: usize,
     ghost whole: { length octets ≡ 8 },
     ghost few: { len ≤ 8 },
 }

@@ -91,13 +91,14 @@ fn read_purge_ms(r: &mut Reader) -> Result<PurgeMs, ArgumentFault>
 }
 
 // The argument of a request. It is missing if its place has another operation's tag.
-pub fn read_argument(r: &mut Reader, request: Request) -> Result<Argument, ArgumentFault>
-    ensures { λ u. ⌜ u ≡ argumentAt request (unread (now (r .entry))) ⌝ }
+pub fn read_argument(elements: Reader, request: Request) -> Result<Argument, ArgumentFault>
+    ensures { λ u. ⌜ u ≡ argumentAt request (unread (elements .entry)) ⌝ }
 {
-    enter(r, request.operation().argument_tag())?;
+    let mut r = elements;
+    enter(&mut r, request.operation().argument_tag())?;
     match request {
-        Request::UpdateLocation => Ok(Argument::UpdateLocation(read_update_location(r)?)),
-        Request::UpdateGprsLocation => Ok(Argument::UpdateGprsLocation(read_update_gprs_location(r)?)),
-        Request::PurgeMs => Ok(Argument::PurgeMs(read_purge_ms(r)?)),
+        Request::UpdateLocation => Ok(Argument::UpdateLocation(read_update_location(&mut r)?)),
+        Request::UpdateGprsLocation => Ok(Argument::UpdateGprsLocation(read_update_gprs_location(&mut r)?)),
+        Request::PurgeMs => Ok(Argument::PurgeMs(read_purge_ms(&mut r)?)),
     }
 }

@@ -12,7 +12,7 @@ returns-in-None c =
     let r = c .args .self .now in
     let m = length-window (r .octets .now) (r .at) (r .end) (omega arith) in
     let some : 0 < length (window r) = omega arith in
-    record { layer = refl; same = refl; read = front-broken (r .at) (window r) (c .in-None .ensures tt) some; part = tt; over = refl; end = refl }
+    record { layer = refl; same = refl; read = front-broken (r .at) (window r) (c .in-None .ensures tt) some; part = tt; stays = refl; over = refl; end = refl }
 
 pub returns-in-Some : need.returns-in-Some
 returns-in-Some c =
@@ -30,6 +30,7 @@ returns-in-Some c =
         ∙ ap (λ v. next (h .tag) (r .at) (r .at + h .size) (take (h .len) (drop (h .size) (window r))) (elements (r .at + h .size + h .len) v)) w
         ∙ front-step (r .at) (window r) (h .tag) (h .size) (h .len) (c .in-Some .ensures tt);
       layer = tt;
+      stays = tt;
       same = refl;
       part = (refl, omega arith, omega arith);
       over = refl;
