@@ -1,3 +1,4 @@
 pub mod Meaning
 pub mod Sides
 pub mod Update
+pub mod Download

@@ -1,5 +1,6 @@
 -- The circuit side and the packet side.
 use mathlib.Core.Bool.{Bool, true, false}
+use mathlib.Core.List.{[]}
 use Rattle.std.specs.declared.option.Option.the-variants.{None}
 use Rattle.numbers.specs.declared.digits.Digits.{Digits}
 use Rattle.numbers.specs.declared.node.NodeNumber.{NodeNumber}
@@ -7,6 +8,8 @@ use Rattle.operation.specs.declared.codes.Operation.the-variants.{UpdateLocatio
 use Rattle.operation.specs.declared.«user_error».Diagnostic.the-variants.{ImsiUnknown, GprsSubscriptionUnknown}
 use Rattle.message.specs.declared.kinds.AccessMode.{AccessMode}
 use Rattle.message.specs.declared.kinds.AccessMode.the-variants.{Both, CircuitOnly, PacketOnly}
+use Rattle.message.specs.Messages.{circuitInsert, packetInsert}
+use Rattle.subscription.specs.Codes.{codesIn}
 use Rattle.subscription.specs.declared.stay.CircuitStay.{CircuitStay}
 use Rattle.subscription.specs.declared.stay.Location.{Location}
 use Rattle.subscription.specs.declared.stay.PacketStay.{PacketStay}
@@ -38,11 +41,13 @@ abbrev pub circuitMeaning : Meaning CircuitStay
 circuitMeaning = record {
     location = λ r. r .circuit; replaced = withCircuit; absent = noCircuit;
     node = λ s. nodeWith (s .vlr .digits); lmsi = λ s. s .lmsi;
-    served = circuitServed; unserved = ImsiUnknown; operation = UpdateLocation }
+    served = circuitServed; unserved = ImsiUnknown; operation = UpdateLocation;
+    first = λ i p. circuitInsert i (p .msisdn) (p .category); bearers = λ p. codesIn (p .bearers) }
 
 -- the node is the SGSN
 abbrev pub packetMeaning : Meaning PacketStay
 packetMeaning = record {
     location = λ r. r .packet; replaced = withPacket; absent = noPacket;
     node = λ s. nodeWith (s .sgsn .digits); lmsi = λ s. None;
-    served = packetServed; unserved = GprsSubscriptionUnknown; operation = UpdateGprsLocation }
+    served = packetServed; unserved = GprsSubscriptionUnknown; operation = UpdateGprsLocation;
+    first = λ i p. packetInsert i (p .msisdn) (p .mode); bearers = λ p. [] }

@@ -2,12 +2,17 @@
 ghost use mathlib.Core.Path.{_≡_};
 ghost use Rattle.side.specs.Sides.{circuitMeaning};
 use super::side::Side;
+use message::insert::circuit_insert;
 use message::kinds::AccessMode;
+use message::message::Message;
 use numbers::address::Lmsi;
+use numbers::imsi::Imsi;
 use numbers::node::NodeNumber;
 use operation::codes::Operation;
 use operation::user_error::Diagnostic;
 use subscription::making::no_circuit;
+use subscription::code_list::CodeList;
+use subscription::profile::Profile;
 use subscription::stay::Location;
 use subscription::stay::Record;
 use subscription::stay::CircuitStay;
@@ -60,5 +65,13 @@ pub impl Side for Circuit as CircuitSide {
 
     fn operation() -> Operation {
         Operation::UpdateLocation
+    }
+
+    fn first(imsi: Option<Imsi>, profile: &Profile) -> Message {
+        circuit_insert(imsi, profile.msisdn, profile.category)
+    }
+
+    fn bearers(profile: &Profile) -> CodeList {
+        profile.bearers
     }
 }

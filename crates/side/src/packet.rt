@@ -2,12 +2,17 @@
 ghost use mathlib.Core.Path.{_≡_};
 ghost use Rattle.side.specs.Sides.{packetMeaning};
 use super::side::Side;
+use message::insert::packet_insert;
 use message::kinds::AccessMode;
+use message::message::Message;
 use numbers::address::Lmsi;
+use numbers::imsi::Imsi;
 use numbers::node::NodeNumber;
 use operation::codes::Operation;
 use operation::user_error::Diagnostic;
 use subscription::making::no_packet;
+use subscription::code_list::CodeList;
+use subscription::profile::Profile;
 use subscription::stay::Location;
 use subscription::stay::Record;
 use subscription::stay::PacketStay;
@@ -60,5 +65,13 @@ pub impl Side for Packet as PacketSide {
 
     fn operation() -> Operation {
         Operation::UpdateGprsLocation
+    }
+
+    fn first(imsi: Option<Imsi>, profile: &Profile) -> Message {
+        packet_insert(imsi, profile.msisdn, profile.mode)
+    }
+
+    fn bearers(_profile: &Profile) -> CodeList {
+        CodeList::empty()
     }
 }

@@ -2,12 +2,18 @@
 ghost use mathlib.Core.Path.{_≡_};
 ghost use Rattle.subscription.specs.declared.stay.Record.{Record as Subscriber};
 ghost use Rattle.subscription.specs.declared.stay.Location.{Location as Place};
+ghost use Rattle.message.specs.Writing.{written};
+ghost use Rattle.subscription.specs.Codes.{codesIn};
 ghost use Rattle.side.specs.Meaning.{Meaning};
 use message::kinds::AccessMode;
+use message::message::Message;
 use numbers::address::Lmsi;
+use numbers::imsi::Imsi;
 use numbers::node::NodeNumber;
 use operation::codes::Operation;
 use operation::user_error::Diagnostic;
+use subscription::code_list::CodeList;
+use subscription::profile::Profile;
 use subscription::stay::Location;
 use subscription::stay::Record;
 
@@ -56,4 +62,12 @@ pub trait Side {
     // The operation by which this side's nodes update.
     fn operation() -> Operation
         ensures { λ r. ⌜ r ≡ meaning .operation ⌝ };
+
+    // Insert 1 of a download.
+    fn first(imsi: Option<Imsi>, profile: &Profile) -> Message
+        ensures { λ r. ⌜ written r ≡ meaning .first imsi (now (profile .entry)) ⌝ };
+
+    // The bearer codes that a download sends.
+    fn bearers(profile: &Profile) -> CodeList
+        ensures { λ r. ⌜ codesIn r ≡ meaning .bearers (now (profile .entry)) ⌝ };
 }

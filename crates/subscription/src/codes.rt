@@ -1,4 +1,5 @@
 // Lists of service codes.
+ghost use mathlib.Core.List.{[]};
 ghost use mathlib.Core.Path.{_≡_};
 ghost use lib.ListN.{length};
 ghost use Rattle.subscription.specs.Codes.{codesIn, codesOf};
@@ -29,6 +30,15 @@ fn all_once(codes: &[u8]) -> bool
 }
 
 impl CodeList {
+    pub fn empty() -> CodeList
+        ensures { λ r. ⌜ codesIn r ≡ [] ⌝ }
+    {
+        CodeList {
+            codes: [0; 20],
+            len: 0,
+        }
+    }
+
     // The list of these codes; none where there are more than 20, or one stands twice.
     pub fn read(octets: &[u8]) -> Option<CodeList>
         ensures { λ r. ⌜ r ≡ codesOf (now (octets .entry)) ⌝ }
