@@ -33,7 +33,10 @@ fn read_body(r: &mut Reader) -> Result<Option<u8>, ComponentFault>
                 Err(s) => Err(ComponentFault::Code(s)),
             }
         }
-        Ok(e) => Err(ComponentFault::Code(Spot { place: e.place, layer })),
+        Ok(e) => Err(ComponentFault::Code(Spot {
+            place: e.place,
+            layer,
+        })),
         Err(ElementFault::Missing(_)) => Ok(None),
         Err(ElementFault::Unreadable(s)) => Err(ComponentFault::Code(s)),
     }
@@ -52,7 +55,10 @@ fn read_error(r: &mut Reader) -> Result<Answer, ComponentFault>
 {
     let id = read_identifier(r)?;
     match read_code(r) {
-        Ok(code) => Ok(Answer::Error { id, code: code.value }),
+        Ok(code) => Ok(Answer::Error {
+            id,
+            code: code.value,
+        }),
         Err(s) => Err(ComponentFault::Code(s)),
     }
 }

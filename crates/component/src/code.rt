@@ -4,10 +4,10 @@ ghost use Rattle.element.specs.Elements.{unread};
 ghost use Rattle.component.specs.Reading.{codeAt, identifierAt, requestIn};
 ghost use Rattle.operation.specs.Steps.{withRest};
 use super::fault::ComponentFault;
-use operation::codes::Request;
 use element::fault::ElementFault;
 use element::fault::Spot;
 use element::reader::Reader;
+use operation::codes::Request;
 
 // An identifier or a code, and where it stands.
 #[derive(Clone, Copy)]
@@ -24,9 +24,15 @@ pub(crate) fn read_code(r: &mut Reader) -> Result<Code, Spot>
     let layer = r.layer;
     match r.next() {
         Ok(e) => {
-            let spot = Spot { place: e.place, layer };
+            let spot = Spot {
+                place: e.place,
+                layer,
+            };
             match e.content {
-                [value] if e.tag == 0x02 => Ok(Code { value: *value, spot }),
+                [value] if e.tag == 0x02 => Ok(Code {
+                    value: *value,
+                    spot,
+                }),
                 _ => Err(spot),
             }
         }

@@ -1,9 +1,6 @@
 // Invokes: identifier, operation code and argument.
 ghost use mathlib.Core.Path.{_≡_};
 ghost use Rattle.component.specs.Component.{invokeRead};
-use operation::argument::Argument;
-use operation::argument::ArgumentFault;
-use operation::argument_reading::read_argument;
 use super::code::read_identifier;
 use super::code::read_request;
 use super::fault::ComponentFault;
@@ -12,6 +9,9 @@ use super::outer::Wanted;
 use super::outer::admit;
 use element::fault::Layer;
 use element::reader::Reader;
+use operation::argument::Argument;
+use operation::argument::ArgumentFault;
+use operation::argument_reading::read_argument;
 
 // What a node asks, and the identifier that its answer will bear.
 #[derive(Clone, Copy)]

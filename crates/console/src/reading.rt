@@ -53,7 +53,10 @@ fn update_text(heap: Global, id: u8, update: UpdateLocation) -> Result<String, A
     let msc = digits_text(heap, &update.msc.digits)?;
     let vlr = digits_text(heap, &update.vlr.digits)?;
     let lmsi = lmsi_text(heap, update.lmsi)?;
-    format!(heap, "read: invoke {id} update-location {imsi} msc {msc} vlr {vlr} lmsi {lmsi}")
+    format!(
+        heap,
+        "read: invoke {id} update-location {imsi} msc {msc} vlr {vlr} lmsi {lmsi}"
+    )
 }
 
 fn gprs_update_text(heap: Global, id: u8, update: UpdateGprsLocation) -> Result<String, AllocError>
@@ -62,7 +65,10 @@ fn gprs_update_text(heap: Global, id: u8, update: UpdateGprsLocation) -> Result<
     let imsi = digits_text(heap, &update.imsi.digits)?;
     let sgsn = digits_text(heap, &update.sgsn.digits)?;
     let address = address_text(heap, update.address)?;
-    format!(heap, "read: invoke {id} update-gprs-location {imsi} sgsn {sgsn} address {address}")
+    format!(
+        heap,
+        "read: invoke {id} update-gprs-location {imsi} sgsn {sgsn} address {address}"
+    )
 }
 
 fn vlr_text(heap: Global, vlr: Option<VlrNumber>) -> Result<String, AllocError>
@@ -89,7 +95,10 @@ fn purge_text(heap: Global, id: u8, purge: PurgeMs) -> Result<String, AllocError
     let imsi = digits_text(heap, &purge.imsi.digits)?;
     let vlr = vlr_text(heap, purge.vlr)?;
     let sgsn = sgsn_text(heap, purge.sgsn)?;
-    format!(heap, "read: invoke {id} purge-ms {imsi} vlr {vlr} sgsn {sgsn}")
+    format!(
+        heap,
+        "read: invoke {id} purge-ms {imsi} vlr {vlr} sgsn {sgsn}"
+    )
 }
 
 fn argument_text(heap: Global, id: u8, argument: Argument) -> Result<String, AllocError>

@@ -50,8 +50,9 @@ elementsAfter k p [] = ended p
 elementsAfter (suc k) p (b ∷ bs) = elementsAfter k (p + 1) bs
 elementsAfter zero p (b ∷ bs) =
     elim (front (b ∷ bs)) [
-      unreadable ↦ broken p
-    | element t h n ↦ next t p (p + h) (take n (drop h (b ∷ bs))) (elementsAfter (h + n - 1) (p + 1) bs) ]
+      | unreadable ↦ broken p
+      | element t h n ↦ next t p (p + h) (take n (drop h (b ∷ bs))) (elementsAfter (h + n - 1) (p + 1) bs)
+    ]
 
 -- the elements of octets, the first of which has the place p
 abbrev pub elements : ℕ → List ℕ → Elements

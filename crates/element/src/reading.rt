@@ -48,7 +48,12 @@ fn read_head(octets: &[u8]) -> Option<Head>
         [tag, ..] if *tag & 0x1f == 0x1f => None,
         [tag, len, rest @ ..] if *len < 0x80 => fit(*tag, 2, *len as usize, rest),
         [tag, 0x81, len, rest @ ..] => fit(*tag, 3, *len as usize, rest),
-        [tag, 0x82, high, low, rest @ ..] => fit(*tag, 4, *high as usize * 256 + *low as usize, rest),
+        [tag, 0x82, high, low, rest @ ..] => fit(
+            *tag,
+            4,
+            *high as usize * 256 + *low as usize,
+            rest,
+        ),
         _ => None,
     }
 }
@@ -93,7 +98,10 @@ impl<'a> Reader<'a> {
     {
         let octets = self.octets;
         let place = self.at;
-        let spot = Spot { place, layer: self.layer };
+        let spot = Spot {
+            place,
+            layer: self.layer,
+        };
         if place == self.end {
             return Err(ElementFault::Missing(spot));
         }

@@ -57,8 +57,12 @@ updateOctets =
 pub record WorkedOctets : Type 0 where
   -- the update of VLR 99901 behind MSC 99902
   pub update : updateRead (invokeRead updateOctets) ≡ Some (record {
-      id = 1; imsi = 0 ∷ 0 ∷ 1 ∷ 0 ∷ 1 ∷ 0 ∷ 0 ∷ 0 ∷ 0 ∷ 0 ∷ 0 ∷ 0 ∷ 0 ∷ 0 ∷ 1 ∷ [];
-      msc = 9 ∷ 9 ∷ 9 ∷ 0 ∷ 2 ∷ []; vlr = 9 ∷ 9 ∷ 9 ∷ 0 ∷ 1 ∷ []; lmsi = None })
+    id = 1;
+    imsi = 0 ∷ 0 ∷ 1 ∷ 0 ∷ 1 ∷ 0 ∷ 0 ∷ 0 ∷ 0 ∷ 0 ∷ 0 ∷ 0 ∷ 0 ∷ 0 ∷ 1 ∷ [];
+    msc = 9 ∷ 9 ∷ 9 ∷ 0 ∷ 2 ∷ [];
+    vlr = 9 ∷ 9 ∷ 9 ∷ 0 ∷ 1 ∷ [];
+    lmsi = None;
+  })
   -- insert 1, with the MSISDN and the category
   pub first-insert : mapped (λ d. circuitInsert None (record { digits = d }) 0x0A) (numberOf (0x91 ∷ 0x99 ∷ 0x59 ∷ 0xF1 ∷ []))
       ≡ Some (0xA1 ∷ 0x14 ∷ 0x02 ∷ 0x01 ∷ 0x01 ∷ 0x02 ∷ 0x01 ∷ 0x07 ∷ 0x30 ∷ 0x0C ∷ 0x81 ∷ 0x04 ∷ 0x91 ∷ 0x99 ∷ 0x59 ∷ 0xF1 ∷ 0x82 ∷ 0x01 ∷ 0x0A ∷ 0x83 ∷ 0x01 ∷ 0x00 ∷ [])

@@ -7,9 +7,9 @@ ghost use Rattle.message.specs.Writing.{written};
 use super::kinds::CancelType;
 use super::message::Message;
 use super::parts::invoke;
-use operation::codes::Operation;
 use numbers::address::Lmsi;
 use numbers::imsi::Imsi;
+use operation::codes::Operation;
 
 // Whom a cancel is about: 04 IMSI or, if the stay has an LMSI, 30 holding 04 IMSI and 04 LMSI.
 fn identity_element(imsi: Imsi, lmsi: Option<Lmsi>) -> Message

@@ -8,9 +8,9 @@ use super::kinds::AccessMode;
 use super::kinds::Service;
 use super::message::Message;
 use super::parts::invoke;
-use operation::codes::Operation;
 use numbers::imsi::Imsi;
 use numbers::node::Msisdn;
+use operation::codes::Operation;
 
 // Insert 1 for the circuit side. The IMSI stands in front in a dialogue that the register itself starts.
 pub fn circuit_insert(imsi: Option<Imsi>, msisdn: Msisdn, category: u8) -> Message

@@ -6,9 +6,9 @@ ghost use Rattle.message.specs.Messages.{detailElement, emptyResult, error, fl
 ghost use Rattle.message.specs.Writing.{written};
 use super::message::Message;
 use super::parts::result;
+use numbers::node::NodeNumber;
 use operation::codes::Operation;
 use operation::user_error::UserError;
-use numbers::node::NodeNumber;
 
 // The result of an update, operation 2 or 23: the register's own number.
 pub fn update_result(id: u8, operation: Operation, own: NodeNumber) -> Message

@@ -8,9 +8,9 @@ ghost use Rattle.numbers.specs.Number.{numberOctets};
 ghost use Rattle.numbers.specs.Packing.{packed};
 ghost use Rattle.message.specs.Writing.{coded, imsiFront, invokeOctets, resultOctets, written};
 use super::message::Message;
-use operation::codes::Operation;
 use numbers::digits::Digits;
 use numbers::imsi::Imsi;
+use operation::codes::Operation;
 
 impl Message {
     // An element that holds packed digits.

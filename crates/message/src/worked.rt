@@ -3,5 +3,4 @@ ghost use Rattle.message.specs.Worked.{WorkedOctets};
 
 pub fn worked_octets_hold()
     ensures { λ _. ⌜ WorkedOctets ⌝ }
-{
-}
+{}

@@ -31,8 +31,9 @@ pub decimal-in : (d : Digits) (k : ℕ) → getD (digitsIn d) k 0 ≤ 9
 decimal-in d k =
     let n = long d in
     elim (cases-lt k (d .len)) [
-      inl h ↦ subst (λ x. x ≤ 9) (sym (getD-take (d .len) (d .digits) k 0 h)) (d .decimal k)
-    | inr h ↦ subst (λ x. x ≤ 9) (sym (getD-past (digitsIn d) k 0 (omega arith))) (omega arith) ]
+      | inl h ↦ subst (λ x. x ≤ 9) (sym (getD-take (d .len) (d .digits) k 0 h)) (d .decimal k)
+      | inr h ↦ subst (λ x. x ≤ 9) (sym (getD-past (digitsIn d) k 0 (omega arith))) (omega arith)
+    ]
 
 -- two values with the same digits are one
 pub same : (d e : Digits) → digitsIn d ≡ digitsIn e → d ≡ e
@@ -88,4 +89,4 @@ digital-from ds e h g = and-from (decimal ds) _ e (and-from (leb 1 (length ds)) 
 pub filled : (ds l : List ℕ) (i : ℕ) → l ≡ take i ds ++ replicate (15 - i) 0 → decimal (take i ds) ≡ true → i ≡ length ds → (l ≡ entries ds) × (decimal ds ≡ true)
 filled ds l i e f n =
     let a : take i ds ≡ ds = take-all i ds (omega arith) in
-    ( e ∙ ap (λ l. l ++ replicate (15 - i) 0) a ∙ ap (λ k. ds ++ replicate (15 - k) 0) n, ap decimal (sym a) ∙ f )
+    (e ∙ ap (λ l. l ++ replicate (15 - i) 0) a ∙ ap (λ k. ds ++ replicate (15 - k) 0) n, ap decimal (sym a) ∙ f)

@@ -26,7 +26,7 @@ same-imsi i j p = values-one struct (the-propositions (the-row .coded)) i j (λ 
 
 at-long : (d : Digits) (b : Bool) (e : leb 5 (d .len) ≡ b) (i : Imsi) → i .digits ≡ d → longImsi d b e ≡ Some i
 at-long d true e i p = ap Some (same-imsi _ i (sym p))
-at-long d false e i p = 
+at-long d false e i p =
     let s = leb-false 5 (d .len) e in
     let l = i .long in
     let n : i .digits .len ≡ d .len = ap (λ x. x .len) p in absurd (omega arith)

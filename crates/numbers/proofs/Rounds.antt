@@ -140,13 +140,14 @@ address-written (b ∷ bs) a e = from-address b bs (eqb b 0x04 && eqb (length (b
 
 pub laws : NumberLaws
 laws = record {
-    holds = holds;
-    same = λ x y. decides-like (sameDigits x y) (same x y) (ap digitsIn) (sameBytes-decides (digitsIn x) (digitsIn y));
-    same-imsi = λ i j. decides-like (sameDigits (i .digits) (j .digits)) (λ h. same-imsi i j (same (i .digits) (j .digits) h)) (ap (λ k. digitsIn (k .digits))) (sameBytes-decides (digitsIn (i .digits)) (digitsIn (j .digits)));
-    digits-read = digits-read;
-    imsi-read = λ i. sym (imsi-long (packed (digitsIn (i .digits))) (i .digits) i (sym (digits-read (i .digits))) refl);
-    number-read = number-read;
-    digits-written = digits-written;
-    imsi-written = imsi-written;
-    number-written = number-written;
-    address-written = address-written }
+  holds = holds;
+  same = λ x y. decides-like (sameDigits x y) (same x y) (ap digitsIn) (sameBytes-decides (digitsIn x) (digitsIn y));
+  same-imsi = λ i j. decides-like (sameDigits (i .digits) (j .digits)) (λ h. same-imsi i j (same (i .digits) (j .digits) h)) (ap (λ k. digitsIn (k .digits))) (sameBytes-decides (digitsIn (i .digits)) (digitsIn (j .digits)));
+  digits-read = digits-read;
+  imsi-read = λ i. sym (imsi-long (packed (digitsIn (i .digits))) (i .digits) i (sym (digits-read (i .digits))) refl);
+  number-read = number-read;
+  digits-written = digits-written;
+  imsi-written = imsi-written;
+  number-written = number-written;
+  address-written = address-written;
+}

@@ -18,8 +18,14 @@ digitsIn d = take (d .len) (d .digits)
 
 abbrev pub holding : (ds : List ℕ) → digital ds ≡ true → Digits
 holding ds e = record {
-    digits = entries ds; len = length ds;
-    whole = whole ds (few ds e); some = some ds e; few = few ds e; decimal = each ds _ (tens ds e); padded = padded ds }
+  digits = entries ds;
+  len = length ds;
+  whole = whole ds (few ds e);
+  some = some ds e;
+  few = few ds e;
+  decimal = each ds _ (tens ds e);
+  padded = padded ds;
+}
 
 abbrev pub held : (ds : List ℕ) (b : Bool) → digital ds ≡ b → Option Digits
 held ds true e = Some (holding ds e)

@@ -14,7 +14,11 @@ impl Imsi {
         ensures { λ r. ⌜ r ≡ imsiOf (now (octets .entry)) ⌝ }
     {
         let digits = Digits::unpack(octets)?;
-        if digits.len >= 5 { Some(Imsi { digits }) } else { None }
+        if digits.len >= 5 {
+            Some(Imsi { digits })
+        } else {
+            None
+        }
     }
 }
 

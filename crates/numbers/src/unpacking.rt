@@ -47,6 +47,9 @@ impl Digits {
             }
             digits[i] = digit;
         }
-        Some(Digits { digits, len: len as u8 })
+        Some(Digits {
+            digits,
+            len: len as u8,
+        })
     }
 }

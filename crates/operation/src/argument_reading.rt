@@ -8,13 +8,13 @@ use super::argument::ArgumentFault;
 use super::argument::PurgeMs;
 use super::argument::UpdateGprsLocation;
 use super::argument::UpdateLocation;
+use super::codes::Request;
 use super::element_reading::enter;
 use super::element_reading::read_address;
 use super::element_reading::read_imsi;
 use super::element_reading::read_lmsi;
 use super::element_reading::read_number;
 use super::element_reading::read_optional_number;
-use super::codes::Request;
 use super::user_error::UserError;
 use element::reader::Reader;
 use numbers::node::MscNumber;
@@ -44,7 +44,12 @@ fn read_update_location(r: &mut Reader) -> Result<UpdateLocation, ArgumentFault>
         digits: read_number(r, 0x04)?,
     };
     let lmsi = read_lmsi(r)?;
-    Ok(UpdateLocation { imsi, msc, vlr, lmsi })
+    Ok(UpdateLocation {
+        imsi,
+        msc,
+        vlr,
+        lmsi,
+    })
 }
 
 fn read_update_gprs_location(r: &mut Reader) -> Result<UpdateGprsLocation, ArgumentFault>
@@ -55,7 +60,11 @@ fn read_update_gprs_location(r: &mut Reader) -> Result<UpdateGprsLocation, Argum
         digits: read_number(r, 0x04)?,
     };
     let address = read_address(r)?;
-    Ok(UpdateGprsLocation { imsi, sgsn, address })
+    Ok(UpdateGprsLocation {
+        imsi,
+        sgsn,
+        address,
+    })
 }
 
 // The VLR number, if one comes next.
@@ -98,7 +107,9 @@ pub fn read_argument(elements: Reader, request: Request) -> Result<Argument, Arg
     enter(&mut r, request.operation().argument_tag())?;
     match request {
         Request::UpdateLocation => Ok(Argument::UpdateLocation(read_update_location(&mut r)?)),
-        Request::UpdateGprsLocation => Ok(Argument::UpdateGprsLocation(read_update_gprs_location(&mut r)?)),
+        Request::UpdateGprsLocation => Ok(Argument::UpdateGprsLocation(
+            read_update_gprs_location(&mut r)?,
+        )),
         Request::PurgeMs => Ok(Argument::PurgeMs(read_purge_ms(&mut r)?)),
     }
 }

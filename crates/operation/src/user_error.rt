@@ -48,7 +48,8 @@ impl UserError {
             UserError::UnknownSubscriber(Diagnostic::GprsSubscriptionUnknown) => Some(1),
             UserError::RoamingNotAllowed(Cause::PlmnRoamingNotAllowed) => Some(0),
             UserError::RoamingNotAllowed(Cause::OperatorDeterminedBarring) => Some(3),
-            UserError::SystemFailure | UserError::DataMissing | UserError::UnexpectedDataValue => None,
+            UserError::SystemFailure | UserError::DataMissing | UserError::UnexpectedDataValue =>
+                None,
         }
     }
 }

@@ -39,15 +39,29 @@ packetServed PacketOnly = true
 -- the node is the VLR, which may give an LMSI
 abbrev pub circuitMeaning : Meaning CircuitStay
 circuitMeaning = record {
-    location = λ r. r .circuit; replaced = withCircuit; absent = noCircuit;
-    node = λ s. nodeWith (s .vlr .digits); lmsi = λ s. s .lmsi;
-    served = circuitServed; unserved = ImsiUnknown; operation = UpdateLocation;
-    first = λ i p. circuitInsert i (p .msisdn) (p .category); bearers = λ p. codesIn (p .bearers) }
+  location = λ r. r .circuit;
+  replaced = withCircuit;
+  absent = noCircuit;
+  node = λ s. nodeWith (s .vlr .digits);
+  lmsi = λ s. s .lmsi;
+  served = circuitServed;
+  unserved = ImsiUnknown;
+  operation = UpdateLocation;
+  first = λ i p. circuitInsert i (p .msisdn) (p .category);
+  bearers = λ p. codesIn (p .bearers);
+}
 
 -- the node is the SGSN
 abbrev pub packetMeaning : Meaning PacketStay
 packetMeaning = record {
-    location = λ r. r .packet; replaced = withPacket; absent = noPacket;
-    node = λ s. nodeWith (s .sgsn .digits); lmsi = λ s. None;
-    served = packetServed; unserved = GprsSubscriptionUnknown; operation = UpdateGprsLocation;
-    first = λ i p. packetInsert i (p .msisdn) (p .mode); bearers = λ p. [] }
+  location = λ r. r .packet;
+  replaced = withPacket;
+  absent = noPacket;
+  node = λ s. nodeWith (s .sgsn .digits);
+  lmsi = λ s. None;
+  served = packetServed;
+  unserved = GprsSubscriptionUnknown;
+  operation = UpdateGprsLocation;
+  first = λ i p. packetInsert i (p .msisdn) (p .mode);
+  bearers = λ p. [];
+}

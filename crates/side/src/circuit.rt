@@ -10,12 +10,12 @@ use numbers::imsi::Imsi;
 use numbers::node::NodeNumber;
 use operation::codes::Operation;
 use operation::user_error::Diagnostic;
-use subscription::making::no_circuit;
 use subscription::code_list::CodeList;
+use subscription::making::no_circuit;
 use subscription::profile::Profile;
+use subscription::stay::CircuitStay;
 use subscription::stay::Location;
 use subscription::stay::Record;
-use subscription::stay::CircuitStay;
 
 #[derive(Clone, Copy)]
 pub struct Circuit;

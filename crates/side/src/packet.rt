@@ -10,12 +10,12 @@ use numbers::imsi::Imsi;
 use numbers::node::NodeNumber;
 use operation::codes::Operation;
 use operation::user_error::Diagnostic;
-use subscription::making::no_packet;
 use subscription::code_list::CodeList;
+use subscription::making::no_packet;
 use subscription::profile::Profile;
 use subscription::stay::Location;
-use subscription::stay::Record;
 use subscription::stay::PacketStay;
+use subscription::stay::Record;
 
 #[derive(Clone, Copy)]
 pub struct Packet;

@@ -62,7 +62,13 @@ noImsi = record { digits = holding (0 ∷ 0 ∷ 0 ∷ 0 ∷ 0 ∷ []) refl; long
 
 abbrev pub noProfile : Profile
 noProfile = record {
-    msisdn = record { digits = zeroDigits }; category = 0; bearers = listing [] refl; teleservices = listing [] refl; mode = Both; bar = NoBar }
+  msisdn = record { digits = zeroDigits };
+  category = 0;
+  bearers = listing [] refl;
+  teleservices = listing [] refl;
+  mode = Both;
+  bar = NoBar;
+}
 
 abbrev pub blank : Row
 blank = record { used = false; held = fresh noImsi noProfile }

@@ -16,8 +16,13 @@ codesIn l = take (l .len) (l .codes)
 
 abbrev pub holding : (cs : List ℕ) → listable cs ≡ true → CodeList
 holding cs e = record {
-    codes = entries cs; len = length cs;
-    whole = whole cs (few cs e); few = few cs e; apart = apart cs e; padded = padded cs }
+  codes = entries cs;
+  len = length cs;
+  whole = whole cs (few cs e);
+  few = few cs e;
+  apart = apart cs e;
+  padded = padded cs;
+}
 
 abbrev pub held : (cs : List ℕ) (b : Bool) → listable cs ≡ b → Option CodeList
 held cs true e = Some (holding cs e)

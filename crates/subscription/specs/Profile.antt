@@ -59,8 +59,13 @@ pub record Raw : Type 0 where
 
 abbrev pub rawOf : RawProfile → Raw
 rawOf p = record {
-    msisdn = p .msisdn .now; category = p .category; bearers = p .bearers .now; teleservices = p .teleservices .now;
-    mode = p .mode; bar = p .bar }
+  msisdn = p .msisdn .now;
+  category = p .category;
+  bearers = p .bearers .now;
+  teleservices = p .teleservices .now;
+  mode = p .mode;
+  bar = p .bar;
+}
 
 abbrev pub profileWith : Msisdn → ℕ → CodeList → CodeList → AccessMode → Bar → Profile
 profileWith m c b t a r = record { msisdn = m; category = c; bearers = b; teleservices = t; mode = a; bar = r }

@@ -14,13 +14,17 @@ use Rattle.subscription.specs.declared.stay.Record.{Record}
 -- the fixed form of a side without a stay
 abbrev pub noCircuit : Location CircuitStay
 noCircuit = record {
-    present = false; purged = false;
-    stay = record { vlr = record { digits = zeroDigits }; msc = record { digits = zeroDigits }; lmsi = None } }
+  present = false;
+  purged = false;
+  stay = record { vlr = record { digits = zeroDigits }; msc = record { digits = zeroDigits }; lmsi = None };
+}
 
 abbrev pub noPacket : Location PacketStay
 noPacket = record {
-    present = false; purged = false;
-    stay = record { sgsn = record { digits = zeroDigits }; address = Ipv4 (0 ∷ 0 ∷ 0 ∷ 0 ∷ []) } }
+  present = false;
+  purged = false;
+  stay = record { sgsn = record { digits = zeroDigits }; address = Ipv4 (0 ∷ 0 ∷ 0 ∷ 0 ∷ []) };
+}
 
 -- a record with no stays
 abbrev pub fresh : Imsi → Profile → Record

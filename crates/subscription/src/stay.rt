@@ -1,11 +1,11 @@
 // Where a subscriber stands.
+use super::profile::Profile;
 use numbers::address::GsnAddress;
 use numbers::address::Lmsi;
 use numbers::imsi::Imsi;
 use numbers::node::MscNumber;
 use numbers::node::SgsnNumber;
 use numbers::node::VlrNumber;
-use super::profile::Profile;
 
 #[derive(Clone, Copy)]
 pub struct CircuitStay {

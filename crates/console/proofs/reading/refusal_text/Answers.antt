@@ -14,8 +14,8 @@ returns-in-Some c =
     let s = c .in-Some .spot in
     let n = c .number-number .ensures in
     let told = ap (λ k. codes "read: refused " ++ (decimal k ++ (codes " place " ++ (decimal (s .place) ++ (codes " layer " ++ decimal (c .number-layer .result)))))) n
-        ∙ ap (λ k. codes "read: refused " ++ (decimal (componentNumber (c .args .fault)) ++ (codes " place " ++ (decimal (s .place) ++ (codes " layer " ++ decimal k))))) (c .number-layer .ensures)
-        ∙ ap (refusedText (componentNumber (c .args .fault))) (c .in-Some .ensures tt) in
+    ∙ ap (λ k. codes "read: refused " ++ (decimal (componentNumber (c .args .fault)) ++ (codes " place " ++ (decimal (s .place) ++ (codes " layer " ++ decimal k))))) (c .number-layer .ensures)
+    ∙ ap (refusedText (componentNumber (c .args .fault))) (c .in-Some .ensures tt) in
     subst (λ l. made (c .format .result) (λ t. string-bytes t ≡ l)) told (c .format .ensures .made)
 
 pub returns-in-None : need.returns-in-None

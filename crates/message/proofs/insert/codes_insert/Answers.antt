@@ -9,6 +9,6 @@ pub returns : need.returns
 returns c =
     let codes = c .as-slice .ensures ∙ c .code-elements-codes .ensures .all ∙ ap codesIn (c .next-ten .ensures .front) in
     let argument =
-        c .as-slice-2 .ensures ∙ c .put .ensures .more ∙ ap (λ l. l ++ coded (c .tag .result) (c .as-slice .result .now)) (c .empty-argument .ensures .nothing)
-        ∙ ap (λ t. coded t (c .as-slice .result .now)) (c .tag .ensures) ∙ ap (coded (codesTag (c .args .service))) codes in
+    c .as-slice-2 .ensures ∙ c .put .ensures .more ∙ ap (λ l. l ++ coded (c .tag .result) (c .as-slice .result .now)) (c .empty-argument .ensures .nothing)
+    ∙ ap (λ t. coded t (c .as-slice .result .now)) (c .tag .ensures) ∙ ap (coded (codesTag (c .args .service))) codes in
     c .invoke .ensures ∙ ap (invokeOctets (c .args .id) InsertSubscriberData) argument

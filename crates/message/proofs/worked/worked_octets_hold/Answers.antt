@@ -7,11 +7,12 @@ use Rattle.message.proofs.worked.worked_octets_hold.Needs as need
 pub returns : need.returns
 unfolding digitsOf imsiOf numberOf codesIn
 returns c = record {
-    update = refl;
-    first-insert = refl;
-    second-insert = refl;
-    final-result = refl;
-    cancel-left = refl;
-    purge-marked = refl;
-    purge-unmarked = refl;
-    roaming-barred = refl }
+  update = refl;
+  first-insert = refl;
+  second-insert = refl;
+  final-result = refl;
+  cancel-left = refl;
+  purge-marked = refl;
+  purge-unmarked = refl;
+  roaming-barred = refl;
+}

@@ -26,9 +26,9 @@ returns-in-Some c =
     let w = window-step xs (r .at) (r .end) (h .size + h .len) m in
     record {
       read = ap (λ l. next (h .tag) (r .at) (r .at + h .size) l (elements (r .at + h .size + h .len) (take (r .end - (r .at + h .size + h .len)) (drop (r .at + h .size + h .len) xs)))) (part-of-window xs (r .at) (r .end - r .at) (h .size) (h .len) _ (omega arith) m)
-        ∙ ap (λ a. next (h .tag) (r .at) (r .at + h .size) (take (h .len) (drop (h .size) (window r))) (elements (r .at + h .size + h .len) (take (r .end - a) (drop a xs)))) k
-        ∙ ap (λ v. next (h .tag) (r .at) (r .at + h .size) (take (h .len) (drop (h .size) (window r))) (elements (r .at + h .size + h .len) v)) w
-        ∙ front-step (r .at) (window r) (h .tag) (h .size) (h .len) (c .in-Some .ensures tt);
+          ∙ ap (λ a. next (h .tag) (r .at) (r .at + h .size) (take (h .len) (drop (h .size) (window r))) (elements (r .at + h .size + h .len) (take (r .end - a) (drop a xs)))) k
+          ∙ ap (λ v. next (h .tag) (r .at) (r .at + h .size) (take (h .len) (drop (h .size) (window r))) (elements (r .at + h .size + h .len) v)) w
+          ∙ front-step (r .at) (window r) (h .tag) (h .size) (h .len) (c .in-Some .ensures tt);
       layer = tt;
       stays = tt;
       same = refl;

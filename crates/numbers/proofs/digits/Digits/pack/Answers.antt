@@ -17,10 +17,11 @@ loop-i-again c =
     let e = c .as-slice-digits .ensures .digits in
     let n : length (c .as-slice-digits .result .now) ≡ length ds = ap length e in
     let m = long ds in
-    let x : c .octet .result ≡ getD (packed ds) i 0 = c .octet .ensures ∙ ap (λ l. octetAt l i) e ∙ sym (octet-is ds i (omega arith)) in
-    ( length-set os i (c .octet .result) ∙ c .loop-i .inv .0,
+    let x : c .octet .result ≡ getD (packed ds) i 0 = c .octet .ensures ∙ ap (λ l. octetAt l i) e ∙ sym (octet-is ds i (omega arith)) in (
+      length-set os i (c .octet .result) ∙ c .loop-i .inv .0,
       take-more-set os i (c .octet .result) (omega arith) ∙ ap (λ l. l ++ c .octet .result ∷ []) (c .loop-i .inv .1)
-      ∙ ap (λ y. take i (packed ds) ++ y ∷ []) x ∙ sym (take-more (packed ds) i 0 (omega arith)) )
+          ∙ ap (λ y. take i (packed ds) ++ y ∷ []) x ∙ sym (take-more (packed ds) i 0 (omega arith)),
+    )
 
 pub returns : need.returns
 returns c =

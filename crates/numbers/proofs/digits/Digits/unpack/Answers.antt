@@ -33,7 +33,7 @@ returns-then-digit-gt9 c =
     sym (none-wrong (unpacked bs) (c .loop-i .i) (omega arith))
 
 pub loop-i-again : need.loop-i-again
-loop-i-again c = 
+loop-i-again c =
     let bs = c .args .octets .now in
     let ds = unpacked bs in
     let i = c .loop-i .i in
@@ -42,18 +42,29 @@ loop-i-again c =
     let e : getD ds i 0 ≡ x = half-is bs i h ∙ sym (c .half-digit .ensures) in
     let n : length (take i ds) ≡ i = length-take-le i ds (omega arith) in
     let t : take i ds ++ x ∷ [] ≡ take (i + 1) ds = ap (λ y. take i ds ++ y ∷ []) (sym e) ∙ sym (take-more ds i 0 h) in
-    let f : i < 15 = omega arith in
-    ( ap (λ l. set l i x) (c .loop-i .inv .0) ∙ entries-more (take i ds) x i n f ∙ ap (λ l. l ++ replicate (15 - (i + 1)) 0) t,
-      ap decimal (sym t) ∙ decimal-push (take i ds) x (c .loop-i .inv .1) (c .if-digit-gt9 .left) )
+    let f : i < 15 = omega arith in (
+      ap (λ l. set l i x) (c .loop-i .inv .0) ∙ entries-more (take i ds) x i n f ∙ ap (λ l. l ++ replicate (15 - (i + 1)) 0) t,
+      ap decimal (sym t) ∙ decimal-push (take i ds) x (c .loop-i .inv .1) (c .if-digit-gt9 .left),
+    )
 
 pub ghost-result : need.ghost-result
 ghost-result c =
     let ds = unpacked (c .args .octets .now) in
     let n = c .count-len .ensures in
     let f = filled ds (c .loop-i .digits) (c .loop-i .i) (c .loop-i .inv .0) (c .loop-i .inv .1) (omega arith) in
-    let e : (k : ℕ) → getD (c .loop-i .digits) k 0 ≤ 9 = λ k. subst (λ l. getD l k 0 ≤ 9) (sym (f .0)) (each ds _ (f .1) k) in
-    ( ap length (f .0) ∙ whole ds (omega arith), (omega arith, (omega arith, (e,
-    ( ap (λ k. drop k (c .loop-i .digits)) n ∙ ap (drop (length ds)) (f .0) ∙ padded ds ∙ ap (λ k. replicate (15 - k) 0) (sym n), tt)))) )
+    let e : (k : ℕ) → getD (c .loop-i .digits) k 0 ≤ 9 = λ k. subst (λ l. getD l k 0 ≤ 9) (sym (f .0)) (each ds _ (f .1) k) in (
+      ap length (f .0) ∙ whole ds (omega arith),
+      (
+        omega arith,
+        (
+          omega arith,
+          (
+            e,
+            (ap (λ k. drop k (c .loop-i .digits)) n ∙ ap (drop (length ds)) (f .0) ∙ padded ds ∙ ap (λ k. replicate (15 - k) 0) (sym n), tt),
+          ),
+        ),
+      ),
+    )
 
 pub returns : need.returns
 returns c =
