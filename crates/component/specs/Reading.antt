@@ -1,6 +1,5 @@
 -- What comes next among the elements of a component.
 use mathlib.Core.Bool.{cond, _&&_}
-use mathlib.Core.List.{List}
 use Prim.Native.Nat.{ℕ}
 use lib.Dec.{eqb}
 use lib.ListN.{length, getD}
@@ -26,7 +25,7 @@ faulty f (Err d) = Err (f d)
 abbrev pub codeOf : ℕ → Spot → Code
 codeOf n s = record { value = n; spot = s }
 
--- 02 01 and one octet, at layer l; else the place of what stands there
+-- 02 01 and one octet, at layer l; else the place of what stands there (an element that cannot be read is refused before this is asked)
 abbrev pub codeAt : Layer → Elements → Result (Read Code) Spot
 codeAt l (ended p) = Err (spotAt p l)
 codeAt l (broken p) = Err (spotAt p l)

@@ -15,6 +15,10 @@ hexValue c =
     cond (leb 65 c && leb c 70) (Some (c - 65 + 10)) (
     cond (leb 97 c && leb c 102) (Some (c - 97 + 10)) None))
 
+-- the half that a character of a text of digits stands for: 0 to 9, A to F
+abbrev pub halfOf : ℕ → Option ℕ
+halfOf c = cond (leb 48 c && leb c 57) (Some (c - 48)) (cond (leb 65 c && leb c 70) (Some (c - 65 + 10)) None)
+
 abbrev pub paired : Option ℕ → Option ℕ → Option ℕ
 paired None l = None
 paired (Some h) None = None

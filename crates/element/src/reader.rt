@@ -1,5 +1,5 @@
 ghost use denote.Ref.{now};
-ghost use Prim.Native.Nat.{ℕ, _≤_};
+ghost use Prim.Native.Nat.{_≤_};
 ghost use lib.ListN.{length};
 use super::fault::Layer;
 

@@ -19,7 +19,7 @@ use Rattle.component.specs.declared.fault.ComponentFault.{ComponentFault}
 use Rattle.component.specs.declared.invoke.Invoke.{Invoke}
 use Rattle.operation.specs.declared.codes.Operation.the-variants.{UpdateLocation as Updating}
 use Rattle.operation.specs.declared.«user_error».Cause.the-variants.{OperatorDeterminedBarring}
-use Rattle.operation.specs.declared.«user_error».UserError.the-variants.{RoamingNotAllowed}
+use Rattle.operation.specs.declared.«user_error».UserError.the-variants.{RoamingNotAllowed, SystemFailure}
 use Rattle.component.specs.Component.{invokeRead}
 use Rattle.message.specs.declared.kinds.CancelType.the-variants.{UpdateProcedure}
 use Rattle.message.specs.declared.kinds.Service.the-variants.{Teleservice}
@@ -36,14 +36,14 @@ pub record Update : Type 0 where
 abbrev pub updateOf : ℕ → UpdateLocation → Update
 updateOf n u = record { id = n; imsi = digitsIn (u .imsi .digits); msc = digitsIn (u .msc .digits); vlr = digitsIn (u .vlr .digits); lmsi = u .lmsi }
 
-abbrev pub updateIn : ℕ → Result Argument ArgumentFault → Option Update
-updateIn n (Ok (argument.UpdateLocation u)) = Some (updateOf n u)
-updateIn n (Ok (argument.UpdateGprsLocation u)) = None
-updateIn n (Ok (argument.PurgeMs p)) = None
-updateIn n (Err f) = None
+abbrev pub updateArgued : ℕ → Result Argument ArgumentFault → Option Update
+updateArgued n (Ok (argument.UpdateLocation u)) = Some (updateOf n u)
+updateArgued n (Ok (argument.UpdateGprsLocation u)) = None
+updateArgued n (Ok (argument.PurgeMs p)) = None
+updateArgued n (Err f) = None
 
 abbrev pub updateRead : Result Invoke ComponentFault → Option Update
-updateRead (Ok v) = updateIn (v .id) (v .argument)
+updateRead (Ok v) = updateArgued (v .id) (v .argument)
 updateRead (Err f) = None
 
 abbrev pub imsiOctets : List ℕ
@@ -78,5 +78,9 @@ pub record WorkedOctets : Type 0 where
   -- a purge that marked the VLR's side, and one that marked none
   pub purge-marked : purgeResult 1 true false ≡ 0xA2 ∷ 0x0C ∷ 0x02 ∷ 0x01 ∷ 0x01 ∷ 0x30 ∷ 0x07 ∷ 0x02 ∷ 0x01 ∷ 0x43 ∷ 0x30 ∷ 0x02 ∷ 0x80 ∷ 0x00 ∷ []
   pub purge-unmarked : purgeResult 1 false false ≡ 0xA2 ∷ 0x03 ∷ 0x02 ∷ 0x01 ∷ 0x01 ∷ []
+  pub purge-sgsn : purgeResult 1 false true ≡ 0xA2 ∷ 0x0C ∷ 0x02 ∷ 0x01 ∷ 0x01 ∷ 0x30 ∷ 0x07 ∷ 0x02 ∷ 0x01 ∷ 0x43 ∷ 0x30 ∷ 0x02 ∷ 0x81 ∷ 0x00 ∷ []
+  pub purge-both : purgeResult 1 true true ≡ 0xA2 ∷ 0x0E ∷ 0x02 ∷ 0x01 ∷ 0x01 ∷ 0x30 ∷ 0x09 ∷ 0x02 ∷ 0x01 ∷ 0x43 ∷ 0x30 ∷ 0x04 ∷ 0x80 ∷ 0x00 ∷ 0x81 ∷ 0x00 ∷ []
+  -- error 34, which has no parameter
+  pub system-failure : error 1 SystemFailure ≡ 0xA3 ∷ 0x06 ∷ 0x02 ∷ 0x01 ∷ 0x01 ∷ 0x02 ∷ 0x01 ∷ 0x22 ∷ []
   -- error 8 with cause 3
   pub roaming-barred : error 1 (RoamingNotAllowed OperatorDeterminedBarring) ≡ 0xA3 ∷ 0x0B ∷ 0x02 ∷ 0x01 ∷ 0x01 ∷ 0x02 ∷ 0x01 ∷ 0x08 ∷ 0x30 ∷ 0x03 ∷ 0x0A ∷ 0x01 ∷ 0x03 ∷ []

@@ -1,7 +1,6 @@
 // Cancel Location, operation 3.
 ghost use mathlib.Core.Path.{_≡_};
-ghost use mathlib.Core.List.{_++_};
-ghost use Prim.Native.Nat.{ℕ, _≤_};
+ghost use Prim.Native.Nat.{_≤_};
 ghost use Rattle.message.specs.Messages.{cancel, identity};
 ghost use Rattle.message.specs.Writing.{written};
 use super::kinds::CancelType;

@@ -1,6 +1,6 @@
 // Insert Subscriber Data, operation 7: what a download is made of.
 ghost use mathlib.Core.Path.{_≡_};
-ghost use Prim.Native.Nat.{ℕ, _+_, _*_, _≤_};
+ghost use Prim.Native.Nat.{_*_, _≤_};
 ghost use lib.ListN.{length, take};
 ghost use Rattle.message.specs.Messages.{circuitInsert, codesInsert, packetInsert};
 ghost use Rattle.message.specs.Writing.{codesIn, written};
@@ -17,7 +17,7 @@ pub fn circuit_insert(imsi: Option<Imsi>, msisdn: Msisdn, category: u8) -> Messa
     ensures { λ r. ⌜ written r ≡ circuitInsert imsi msisdn category ⌝ }
 {
     let mut argument = Message::empty();
-    argument.put_imsi_in_front(imsi);
+    argument.put_optional_imsi(imsi);
     argument.put_number(0x81, &msisdn.digits);
     argument.put(0x82, &[category]);
     argument.put(0x83, &[0]);
@@ -29,7 +29,7 @@ pub fn packet_insert(imsi: Option<Imsi>, msisdn: Msisdn, mode: AccessMode) -> Me
     ensures { λ r. ⌜ written r ≡ packetInsert imsi msisdn mode ⌝ }
 {
     let mut argument = Message::empty();
-    argument.put_imsi_in_front(imsi);
+    argument.put_optional_imsi(imsi);
     argument.put_number(0x81, &msisdn.digits);
     argument.put(0x83, &[0]);
     argument.put(0x98, &[mode.number()]);

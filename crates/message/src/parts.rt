@@ -37,7 +37,7 @@ impl Message {
     }
 
     // 80 and an IMSI, if there is one.
-    pub(crate) fn put_imsi_in_front(&mut self, imsi: Option<Imsi>)
+    pub(crate) fn put_optional_imsi(&mut self, imsi: Option<Imsi>)
         requires { ⌜ now self .len ≤ 240 ⌝ }
         ensures more { λ _. ⌜ written (now (self .exit)) ≡ written (now (self .entry)) ++ imsiFront imsi ⌝ }
         ensures size { λ _. ⌜ now (self .exit) .len ≤ now (self .entry) .len + 10 ⌝ }

@@ -1,7 +1,7 @@
 // Reading packed digits.
 ghost use mathlib.Core.Path.{_≡_};
 ghost use Prim.Native.Nat.{ℕ, _*_, _/_, _<_, _≤_};
-ghost use lib.ListN.{length, getD};
+ghost use lib.ListN.{length};
 ghost use Rattle.numbers.specs.Digit.{digitsOf};
 ghost use Rattle.numbers.specs.Packing.{unpacked, halfAt};
 use super::digits::Digits;

@@ -14,5 +14,8 @@ returns c = record {
   cancel-left = refl;
   purge-marked = refl;
   purge-unmarked = refl;
+  purge-sgsn = refl;
+  purge-both = refl;
+  system-failure = refl;
   roaming-barred = refl;
 }
