@@ -1,4 +1,6 @@
 // Components that nodes send: invokes, results and errors (Q.773).
+#![tactic(auto)]
+
 pub mod answer;
 mod code;
 pub mod fault;

@@ -1,4 +1,6 @@
 // The console: plays a script from standard input, one command to a line, and prints what took place.
+#![tactic(auto)]
+
 mod command;
 mod digits;
 mod octets;

@@ -1,4 +1,6 @@
 // Components that the register sends: inserts, cancels, results and errors. Lengths are written in one octet.
+#![tactic(auto)]
+
 pub mod cancel;
 pub mod insert;
 pub mod kinds;

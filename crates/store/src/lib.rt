@@ -1,4 +1,6 @@
 // What a store of subscribers' records means, and rows as both built stores search them.
+#![tactic(auto)]
+
 pub mod interface;
 pub mod row;
 pub mod rows;

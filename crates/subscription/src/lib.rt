@@ -1,4 +1,6 @@
 // What the register keeps of a subscriber: profile, stays, record.
+#![tactic(auto)]
+
 pub mod code_list;
 pub mod codes;
 pub mod making;

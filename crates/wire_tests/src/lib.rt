@@ -1,4 +1,6 @@
 // Tables of octets, of what nodes send and of what the register sends, for the crates that read and write them.
+#![tactic(auto)]
+
 #[cfg(test)]
 mod accepted;
 #[cfg(test)]
