@@ -1,8 +1,8 @@
 -- Parts of a window over a list of octets, and what fits there.
-use Rattle.std.proofs.Common.{◌≡◌, ℕ, zero, suc, ◌+◌, ◌-◌, ◌<◌, ◌≤◌, List, [], ◌∷◌, length, get_or, take, drop, sym, refl, ap, ◌∙◌, subst, add-zero, arith}
+use Rattle.std.proofs.Common.{◌≡◌, ℕ, zero, suc, ◌+◌, ◌-◌, ◌<◌, ◌≤◌, List, [], ◌∷◌, length, take, drop, sym, ap, ◌∙◌, add-zero, arith}
 use Rattle.std.proofs.lemmas.List.{length-take, length-drop, drop-take, take-take, drop-drop}
 use Rattle.std.proofs.lemmas.Bool.Decides.{nat_tests}
-use Rattle.element.specs.Elements.{Front, unreadable, element, front, Elements, ended, broken, next, elements_after, elements}
+use Rattle.element.specs.Elements.{Front, unreadable, element, front, Elements, broken, next, elements_after, elements}
 
 -- n octets after h of a window of m octets
 pub inner : (xs : List ℕ) (m h n : ℕ) → h + n ≤ m → take n (drop h (take m xs)) ≡ take n (drop h xs)

@@ -1,5 +1,5 @@
 -- When digits are held, and by which value.
-use Rattle.std.proofs.Common.{◌≡◌, ℕ, zero, suc, ◌+◌, ◌-◌, ◌<◌, ◌≤◌, Bool, true, false, ◌&&◌, leb, List, [], ◌∷◌, ◌++◌, length, get_or, take, drop, set, replicate, Some, None, Option, sym, refl, ap, ◌∙◌, subst, inl, inr, arith, take-append-drop}
+use Rattle.std.proofs.Common.{◌≡◌, ℕ, zero, suc, ◌+◌, ◌-◌, ◌<◌, ◌≤◌, Bool, true, false, leb, List, [], ◌∷◌, ◌++◌, length, get_or, take, set, replicate, Some, None, sym, refl, ap, ◌∙◌, subst, inl, inr, arith, take-append-drop}
 use denote.Struct.Record.{values_one}
 use Rattle.std.proofs.lemmas.List.{length-take-le, set_at, append_assoc, take_all, get_or-take, get_or_past}
 use Rattle.std.proofs.lemmas.Bool.{true≢false, and_left, and_right, and_from, and_parts, lt-leb, le-leb, cases_lt}

@@ -7,8 +7,8 @@ returns c =
     let was = string_bytes c.args.text.now in
     let high = hex_digit (c.args.octet / 16) in
     let low = hex_digit (c.args.octet % 16) in
-    let first = c.in-ok-push.ensures in
-    let second = c.in-ok-push-2.ensures in
+    let first = c.in_ok-push.ensures in
+    let second = c.in_ok-push-2.ensures in
     second.bytes
     ∙ ap (λ l. string_bytes c.push.new.self ++ l) (second.ascii c.digit-2.ensures.ascii ∙ ap (λ x. x ∷ []) c.digit-2.ensures.digit)
     ∙ ap (λ l. l ++ low ∷ []) (first.bytes ∙ ap (λ l. was ++ l) (first.ascii c.digit.ensures.ascii ∙ ap (λ x. x ∷ []) c.digit.ensures.digit))

@@ -5,10 +5,10 @@ use Rattle.element.proofs.Windows.{length_window}
 use Rattle.element.proofs.Scans.{stop_inside}
 use Rattle.element.proofs.scan.scan_body.Goals as goal
 
-pub returns-in-err-next : goal.returns-in-err-next
-returns-in-err-next c =
+pub returns-in_err-next : goal.returns-in_err-next
+returns-in_err-next c =
     let r = c.loop-r.r in
     let m = length_window r.octets.now r.at r.end (omega arith) in
-    let told = c.in-err-next.ensures in
-    let p = err_from_is_err_and c.from-residual.result c.from-residual.ensures.1 in
-    rw (p.1, p.2) (stop_inside c.in-err-next.field-0.0 r.layer r.at (window r) told.read told.layer (omega arith) ∙ c.loop-r.invariant)
+    let told = c.in_err-next.ensures in
+    let p = err_from_is_err_and c.from_residual.result c.from_residual.ensures.1 in
+    rw (p.1, p.2) (stop_inside c.in_err-next.field-0.0 r.layer r.at (window r) told.read told.layer (omega arith) ∙ c.loop-r.invariant)

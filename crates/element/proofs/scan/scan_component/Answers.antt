@@ -7,8 +7,8 @@ use Rattle.element.proofs.scan.scan_component.Goals as goal
 
 pub returns-then-r : goal.returns-then-r
 returns-then-r c =
-    let told = c.in-ok-outer.ensures in
-    let o = c.in-ok-outer.outer in
+    let told = c.in_ok-outer.ensures in
+    let o = c.in_ok-outer.outer in
     let r = c.next.new.self in
     let m = length_window r.octets.now r.at r.end r.within in
     let n = r.ahead in

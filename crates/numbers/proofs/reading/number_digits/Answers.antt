@@ -6,10 +6,10 @@ use Rattle.numbers.proofs.reading.number_digits.Goals as goal
 pub returns-in-145 : goal.returns-in-145
 returns-in-145 c = c.unpack.ensures ∙ number_at c.args.octets.now (search rules)
 
-pub returns-in-default : goal.returns-in-default
+pub returns-in_default : goal.returns-in_default
 unfolding number_of
-returns-in-default c = search rules
+returns-in_default c = search rules
 
-pub returns-in-default·2 : goal.returns-in-default·2
+pub returns-in_default-2 : goal.returns-in_default-2
 unfolding number_of
-returns-in-default·2 c = search rules
+returns-in_default-2 c = search rules

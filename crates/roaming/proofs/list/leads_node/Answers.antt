@@ -8,8 +8,8 @@ use Rattle.roaming.proofs.list.leads_node.Goals as goal
 
 pub returns : goal.returns
 returns c =
-    let n = c.as-slice.result.now in
-    let e = c.as-slice-2.result.now in
-    let r = c.starts-with.result in
-    same_from_decides r (leads e n) (slice_eq-Decides Decides-eqb e (take (length e) n) r c.starts-with.ensures.value) (bytes_eq-Decides e (take (length e) n))
-    ∙ ap (λ l. leads l n) c.as-slice-2.ensures.digits ∙ ap (leads (digits_in c.args.entry.now)) c.as-slice.ensures.digits
+    let n = c.as_slice.result.now in
+    let e = c.as_slice-2.result.now in
+    let r = c.starts_with.result in
+    same_from_decides r (leads e n) (slice_eq-Decides Decides-eqb e (take (length e) n) r c.starts_with.ensures.value) (bytes_eq-Decides e (take (length e) n))
+    ∙ ap (λ l. leads l n) c.as_slice-2.ensures.digits ∙ ap (leads (digits_in c.args.entry.now)) c.as_slice.ensures.digits

@@ -9,9 +9,9 @@ returns-in-1 g c =
     let n : 1 ≡ c.args.id = omega arith in
     ap Some c.first.ensures ∙ ap (insert_at (download g.D.Side.meaning c.args.imsi c.args.profile.now)) n
 
-pub returns-in-default : goal.returns-in-default
+pub returns-in_default : goal.returns-in_default
 unfolding download
-returns-in-default g c =
+returns-in_default g c =
     let p = c.args.profile.now in
     let k = c.args.id - 2 in
     let n : suc (suc k) ≡ c.args.id = omega arith in

@@ -9,11 +9,11 @@ here cs i b h e =
     at_drop_more once cs i 0 h
     ∙ ap (λ v. not v && once (drop (i + 1) cs)) (sym (e ∙ ap (stands_in (get_or cs i 0)) (take_rest cs (i + 1))))
 
-pub returns-then-stands-in : goal.returns-then-stands-in
-returns-then-stands-in c = sym (here c.args.codes.now c.loop-i.i true c.loop-i-test.true c.if-stands-in.ensures) ∙ c.loop-i.invariant
+pub returns-then-stands_in : goal.returns-then-stands_in
+returns-then-stands_in c = sym (here c.args.codes.now c.loop-i.i true c.loop-i-test.true c.if-stands_in.ensures) ∙ c.loop-i.invariant
 
 pub loop-i-preserved : goal.loop-i-preserved
-loop-i-preserved c = sym (here c.args.codes.now c.loop-i.i false c.loop-i-test.true c.if-stands-in.ensures) ∙ c.loop-i.invariant
+loop-i-preserved c = sym (here c.args.codes.now c.loop-i.i false c.loop-i-test.true c.if-stands_in.ensures) ∙ c.loop-i.invariant
 
 pub returns : goal.returns
 returns c = sym (at_drop_all once c.args.codes.now c.loop-i.i (omega arith)) ∙ c.loop-i.invariant

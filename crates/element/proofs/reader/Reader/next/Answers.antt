@@ -1,5 +1,5 @@
-use Rattle.std.proofs.Common.{◌≡◌, ℕ, ◌+◌, ◌-◌, ◌<◌, ◌≤◌, length, take, drop, sym, refl, ap, ◌∙◌, arith, rules}
-use Rattle.element.specs.Elements.{Front, element, window, next, elements}
+use Rattle.std.proofs.Common.{◌≡◌, ◌+◌, ◌-◌, ◌<◌, ◌≤◌, length, take, drop, refl, ap, ◌∙◌, arith}
+use Rattle.element.specs.Elements.{window, next, elements}
 use Rattle.element.proofs.Windows.{part_of_window, fits, front_step, front_broken, window_step, length_window}
 use Rattle.element.proofs.reader.Reader.next.Goals as goal
 

@@ -1,7 +1,5 @@
-use Rattle.std.proofs.Common.{◌≡◌, ℕ, ◌≤◌, length, get_or, take, sym, subst, arith, rules}
+use Rattle.std.proofs.Common.{arith}
 use native.Mathlib.Nat.{sub-zero}
-use borrow.Rule.Slice.PartMut.{mid_of}
-use Rattle.numbers.specs.Digit.{digits_in}
 use Rattle.numbers.proofs.Held.{long, decimal_in}
 use Rattle.numbers.proofs.digits.Digits.as_slice.Goals as goal
 

@@ -1,4 +1,4 @@
-use Rattle.std.proofs.Common.{◌≡◌, ℕ, ◌+◌, ◌*◌, ◌/◌, ◌<◌, ◌≤◌, [], ◌∷◌, ◌++◌, length, get_or, take, sym, ap, ◌∙◌, arith}
+use Rattle.std.proofs.Common.{◌≡◌, ◌+◌, ◌/◌, [], ◌∷◌, ◌++◌, length, get_or, take, sym, ap, ◌∙◌, arith}
 use Rattle.numbers.specs.Digit.{digits_in}
 use Rattle.numbers.specs.Packing.{packed, octet_at}
 use Rattle.std.proofs.lemmas.List.{length-set, take_more, take_more_set, take_all}
@@ -10,8 +10,8 @@ loop-i-preserved c =
     let ds = digits_in c.args.self.now in
     let os = c.loop-i.octets in
     let i = c.loop-i.i in
-    let e = c.as-slice-digits.ensures.digits in
-    let n : length c.as-slice-digits.result.now ≡ length ds = ap length e in
+    let e = c.as_slice-digits.ensures.digits in
+    let n : length c.as_slice-digits.result.now ≡ length ds = ap length e in
     let m = long ds in
     let x : c.octet.result ≡ get_or (packed ds) i 0 = c.octet.ensures ∙ ap (λ l. octet_at l i) e ∙ sym (octet_is ds i (omega arith)) in (
       length-set os i c.octet.result ∙ c.loop-i.invariant.0,
@@ -22,7 +22,7 @@ loop-i-preserved c =
 pub returns : goal.returns
 returns c =
     let ds = digits_in c.args.self.now in
-    let n : length c.as-slice-digits.result.now ≡ length ds = ap length c.as-slice-digits.ensures.digits in
+    let n : length c.as_slice-digits.result.now ≡ length ds = ap length c.as_slice-digits.ensures.digits in
     let m = long ds in
-    let i : c.loop-i.i ≡ (length c.as-slice-digits.result.now + 1) / 2 = omega arith in
+    let i : c.loop-i.i ≡ (length c.as_slice-digits.result.now + 1) / 2 = omega arith in
     ap (λ k. take k c.loop-i.octets) (sym i) ∙ c.loop-i.invariant.1 ∙ take_all c.loop-i.i (packed ds) (omega arith)

@@ -1,6 +1,6 @@
-use Rattle.std.proofs.Common.{◌≡◌, ℕ, ◌+◌, ◌-◌, ◌*◌, ◌/◌, ◌<◌, ◌≤◌, true, [], ◌∷◌, ◌++◌, length, get_or, take, drop, set, replicate, sym, refl, ap, ◌∙◌, subst, inl, inr, arith}
+use Rattle.std.proofs.Common.{◌≡◌, ℕ, ◌+◌, ◌-◌, ◌<◌, ◌≤◌, [], ◌∷◌, ◌++◌, length, get_or, take, drop, set, replicate, sym, ap, ◌∙◌, subst, inl, inr, arith}
 use Rattle.numbers.specs.Packing.{unpacked, decimal}
-use Rattle.numbers.specs.Holding.{entries, each, whole, padded}
+use Rattle.numbers.specs.Holding.{each, whole, padded}
 use Rattle.std.proofs.lemmas.List.{take_more, length-take-le}
 use Rattle.numbers.proofs.Halves.{long, half_is, half_within}
 use Rattle.numbers.proofs.Held.{none_below, none_above, none_wrong, value, decimal_push, entries_more, filled, digital_from}
@@ -41,24 +41,18 @@ loop-i-preserved c =
       ap decimal (sym t) ∙ decimal_push (take i ds) x c.loop-i.invariant.1 c.if-digit-gt9.false,
     )
 
-pub invariant-of-result : goal.invariant-of-result
-invariant-of-result c =
+pub invariant_of-result : goal.invariant_of-result
+invariant_of-result c =
     let ds = unpacked c.args.octets.now in
     let n = c.count-len.ensures in
     let f = filled ds c.loop-i.digits c.loop-i.i c.loop-i.invariant.0 c.loop-i.invariant.1 (omega arith) in
-    let e : (k : ℕ) → get_or c.loop-i.digits k 0 ≤ 9 = λ k. subst (λ l. get_or l k 0 ≤ 9) (sym f.0) (each ds _ f.1 k) in (
-      ap length f.0 ∙ whole ds (omega arith),
-      (
-        omega arith,
-        (
-          omega arith,
-          (
-            e,
-            (ap (λ k. drop k c.loop-i.digits) n ∙ ap (drop (length ds)) f.0 ∙ padded ds ∙ ap (λ k. replicate (15 - k) 0) (sym n), tt),
-          ),
-        ),
-      ),
-    )
+    let e : (k : ℕ) → get_or c.loop-i.digits k 0 ≤ 9 = λ k. subst (λ l. get_or l k 0 ≤ 9) (sym f.0) (each ds _ f.1 k) in record {
+      whole = ap length f.0 ∙ whole ds (omega arith);
+      some = omega arith;
+      few = omega arith;
+      decimal = e;
+      padded = ap (λ k. drop k c.loop-i.digits) n ∙ ap (drop (length ds)) f.0 ∙ padded ds ∙ ap (λ k. replicate (15 - k) 0) (sym n);
+    }
 
 pub returns : goal.returns
 returns c =

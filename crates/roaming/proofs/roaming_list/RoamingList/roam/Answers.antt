@@ -9,8 +9,8 @@ pub returns : goal.returns
 returns c =
     let l = c.args.self.now in
     let es = entries_in l in
-    let e = c.in-ok-entry.entry in
+    let e = c.in_ok-entry.entry in
     let w = l.whole in
     let n : length es ≡ l.len = length-take-le l.len l.entries (omega arith) in
-    let told = ap (added es) (sym c.in-ok-entry.ensures) ∙ ap (λ b. cond b (Ok (es ++ e ∷ [])) (Err ListFull)) (lt-ltb (length es) 32 (omega arith)) in
+    let told = ap (added es) (sym c.in_ok-entry.ensures) ∙ ap (λ b. cond b (Ok (es ++ e ∷ [])) (Err ListFull)) (lt-ltb (length es) 32 (omega arith)) in
     record { result = sym (ap answer told); list = take_more_set l.entries l.len e (omega arith) ∙ sym (ap (λ r. after r es) told) }

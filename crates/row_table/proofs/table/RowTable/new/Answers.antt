@@ -5,14 +5,14 @@ use Rattle.store.proofs.Tables.{all_distinct, all_unused, all_length}
 use Rattle.store.proofs.RowLists.{all_records}
 use Rattle.row_table.proofs.table.RowTable.new.Goals as goal
 
-pub invariant-of-result : goal.invariant-of-result
-invariant-of-result c =
-    let f = c.free-all.ensures in
+pub invariant_of-result : goal.invariant_of-result
+invariant_of-result c =
+    let f = c.free_all.ensures in
     let n = ap length f ∙ all_length (take (c.min-n.result - 0) c.args.rows.now) ∙ length-take (c.min-n.result - 0) c.args.rows.now in
     (omega (arith, n, c.min-n.ensures), (ap distinct f ∙ all_distinct (take (c.min-n.result - 0) c.args.rows.now), tt))
 
 pub returns : goal.returns
 returns c =
-    let f = c.free-all.ensures in
+    let f = c.free_all.ensures in
     let n = ap unused f ∙ all_unused (take (c.min-n.result - 0) c.args.rows.now) ∙ length-take (c.min-n.result - 0) c.args.rows.now in
     record { empty = ap records_in f ∙ all_records (take (c.min-n.result - 0) c.args.rows.now); places = omega (arith, n, c.min-n.ensures) }

@@ -6,8 +6,8 @@ use Rattle.store.proofs.Stores.{delete_known, delete_none, Removed}
 removed : (c : goal.After-free) → Removed c.args.self.now.buffer.rows.now c.args.imsi.now c.free.new.self.rows.now
 removed c = delete_known _ _ c.place-at.result _ c.args.self.now.apart c.place-at.ensures (omega (arith, c.len.ensures)) c.free.ensures
 
-pub invariant-of-self : goal.invariant-of-self
-invariant-of-self c = let r = removed c in (omega (arith, r.size, c.args.self.now.few), (r.apart, tt))
+pub invariant_of-self : goal.invariant_of-self
+invariant_of-self c = let r = removed c in (omega (arith, r.size, c.args.self.now.few), (r.apart, tt))
 
 pub returns-then-at-len : goal.returns-then-at-len
 returns-then-at-len c = deleted_in_list c.args.self.now.buffer.rows.now c.free.new.self.rows.now c.args.imsi.now true (delete_known c.args.self.now.buffer.rows.now _ c.place-at.result _ c.args.self.now.apart c.place-at.ensures (omega (arith, c.len.ensures)) c.free.ensures).done

@@ -10,21 +10,21 @@ returns-then-len-gt20 c =
     let cs = c.args.octets.now in
     sym (none cs (and_left (leb (length cs) 20) (once cs) (lt-leb (length cs) 20 (omega arith))))
 
-pub returns-then-not-all-once : goal.returns-then-not-all-once
-returns-then-not-all-once c =
+pub returns-then-not-all_once : goal.returns-then-not-all_once
+returns-then-not-all_once c =
     let cs = c.args.octets.now in
-    sym (none cs (and_right (leb (length cs) 20) (once cs) (sym c.if-not-all-once.ensures)))
+    sym (none cs (and_right (leb (length cs) 20) (once cs) (sym c.if-not-all_once.ensures)))
 
-pub invariant-of-result : goal.invariant-of-result
-invariant-of-result c =
+pub invariant_of-result : goal.invariant_of-result
+invariant_of-result c =
     let cs = c.args.octets.now in
-    let e = filled cs c.copy-from-slice.new.self c.copy-from-slice.ensures.after in
-    let l = and_from (leb (length cs) 20) (once cs) (le-leb (length cs) 20 (omega arith)) (sym c.if-not-all-once.ensures) in
+    let e = filled cs c.copy_from_slice.new.self c.copy_from_slice.ensures.after in
+    let l = and_from (leb (length cs) 20) (once cs) (le-leb (length cs) 20 (omega arith)) (sym c.if-not-all_once.ensures) in
     (ap length e ∙ whole cs (omega arith), (omega arith, (ap (λ x. once (take (length cs) x)) e ∙ apart cs l, (ap (drop (length cs)) e ∙ padded cs, tt))))
 
 pub returns : goal.returns
 returns c =
     let cs = c.args.octets.now in
-    let e = filled cs c.copy-from-slice.new.self c.copy-from-slice.ensures.after in
-    let l = and_from (leb (length cs) 20) (once cs) (le-leb (length cs) 20 (omega arith)) (sym c.if-not-all-once.ensures) in
+    let e = filled cs c.copy_from_slice.new.self c.copy_from_slice.ensures.after in
+    let l = and_from (leb (length cs) 20) (once cs) (le-leb (length cs) 20 (omega arith)) (sym c.if-not-all_once.ensures) in
     sym (value cs l _ e refl)

@@ -2,25 +2,25 @@ use Rattle.std.proofs.Common.{rules}
 use Rattle.subscription.specs.Profile.{profile_of}
 use Rattle.subscription.proofs.profile.Profile.read.Goals as goal
 
-pub returns-in-err-msisdn : goal.returns-in-err-msisdn
+pub returns-in_err-msisdn : goal.returns-in_err-msisdn
 unfolding profile_of
-returns-in-err-msisdn c = search rules
+returns-in_err-msisdn c = search rules
 
-pub returns-in-err-bearers : goal.returns-in-err-bearers
+pub returns-in_err-bearers : goal.returns-in_err-bearers
 unfolding profile_of
-returns-in-err-bearers c = search rules
+returns-in_err-bearers c = search rules
 
-pub returns-in-err-teleservices : goal.returns-in-err-teleservices
+pub returns-in_err-teleservices : goal.returns-in_err-teleservices
 unfolding profile_of
-returns-in-err-teleservices c = search rules
+returns-in_err-teleservices c = search rules
 
-pub returns-in-err-mode : goal.returns-in-err-mode
+pub returns-in_err-mode : goal.returns-in_err-mode
 unfolding profile_of
-returns-in-err-mode c = search rules
+returns-in_err-mode c = search rules
 
-pub returns-in-err-bar : goal.returns-in-err-bar
+pub returns-in_err-bar : goal.returns-in_err-bar
 unfolding profile_of
-returns-in-err-bar c = search rules
+returns-in_err-bar c = search rules
 
 pub returns : goal.returns
 unfolding profile_of
