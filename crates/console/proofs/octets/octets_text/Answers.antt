@@ -12,7 +12,7 @@ loop-octet-preserved c =
     let b = get_or rest i 0 in
     let front = octets_text (get_or xs 0 0 ∷ take i rest) in
     let blank = c.in_ok-push.ensures in
-    c.in_ok-push-octet-2.ensures
+    c.in_ok-push_octet-2.ensures
     ∙ ap (λ l. l ++ octet_text b) (blank.bytes ∙ ap (λ l. string_bytes c.loop-octet.text ++ l) (blank.ascii (lit< tt)) ∙ ap (λ l. l ++ 32 ∷ []) c.loop-octet.invariant)
     ∙ append_assoc front (32 ∷ []) (octet_text b)
     ∙ flat_map_more (λ (n : ℕ). 32 ∷ octet_text n) (octet_text (get_or xs 0 0)) (take i rest) b

@@ -6,7 +6,7 @@ use Rattle.message.proofs.insert.codes_insert.Goals as goal
 
 pub returns : goal.returns
 returns c =
-    let codes = c.as_slice.ensures ∙ c.code-elements-codes.ensures.all ∙ ap codes_in c.next-ten.ensures.front in
+    let codes = c.as_slice.ensures ∙ c.code_elements-codes.ensures.all ∙ ap codes_in c.next_ten.ensures.front in
     let argument =
     c.as_slice-2.ensures ∙ c.put.ensures.more ∙ ap (λ l. l ++ coded c.tag.result c.as_slice.result.now) c.empty-argument.ensures.nothing
     ∙ ap (λ t. coded t c.as_slice.result.now) c.tag.ensures ∙ ap (coded (codes_tag c.args.service)) codes in

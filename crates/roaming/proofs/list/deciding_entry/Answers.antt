@@ -10,7 +10,7 @@ loop-entry-preserved c =
     let es = c.args.entries.now in
     let i = c.loop-entry.entry-index in
     let e = c.entry-item.result in
-    ap (λ b. deciding n b (drop (i + 1) es)) (c.better-of-best.ensures ∙ ap (λ x. better_of n x c.loop-entry.best) c.entry-item.is)
+    ap (λ b. deciding n b (drop (i + 1) es)) (c.better_of-best.ensures ∙ ap (λ x. better_of n x c.loop-entry.best) c.entry-item.is)
     ∙ sym (at_drop_more (deciding n c.loop-entry.best) es i e (omega arith)) ∙ c.loop-entry.invariant
 
 pub returns : goal.returns

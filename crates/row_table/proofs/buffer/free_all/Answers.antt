@@ -10,7 +10,7 @@ loop-i-preserved c =
     let ys = c.loop-i.rows in
     let x = get_or ys i blank in
     let l : i < length ys = omega (arith, c.loop-i.auto.rows) in
-    c.free-row.ensures ∙ map_over_more freed c.args.rows.now ys i x c.loop-i-test.true c.loop-i.invariant (get_or_default ys i blank x l)
+    c.free_row.ensures ∙ map_over_more freed c.args.rows.now ys i x c.loop-i-test.true c.loop-i.invariant (get_or_default ys i blank x l)
 
 pub returns : goal.returns
 returns c =

@@ -18,5 +18,5 @@ returns c = λ first e.
     let k = c.args.index in
     let s = c.args.service in
     let n : length left ≡ length cs = ap length c.as_slice-left.ensures in
-    ap Some (c.codes-insert.ensures ∙ ap (codes_insert c.args.id s) (take_rest left (10 * k) ∙ ap (drop (10 * k)) c.as_slice-left.ensures) ∙ ap (λ m. codes_insert m s (drop (10 * k) cs)) (sym e))
+    ap Some (c.codes_insert.ensures ∙ ap (codes_insert c.args.id s) (take_rest left (10 * k) ∙ ap (drop (10 * k)) c.as_slice-left.ensures) ∙ ap (λ m. codes_insert m s (drop (10 * k) cs)) (sym e))
     ∙ sym (at_some first k s cs (omega arith))

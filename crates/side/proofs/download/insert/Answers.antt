@@ -15,5 +15,5 @@ returns-in_default g c =
     let p = c.args.profile.now in
     let k = c.args.id - 2 in
     let n : suc (suc k) ≡ c.args.id = omega arith in
-    c.later-insert.ensures k (omega arith) ∙ ap (λ b. at (later b (codes_in p.teleservices)) k) c.bearers.ensures
+    c.later_insert.ensures k (omega arith) ∙ ap (λ b. at (later b (codes_in p.teleservices)) k) c.bearers.ensures
     ∙ ap (insert_at (download g.D.Side.meaning c.args.imsi p)) n

@@ -14,7 +14,7 @@ returns-then-index-before c = λ k e.
     let n = long_numbered 2 Bearer bs in
     let b = c.count-before.ensures.count in
     let i : c.args.id - 2 ≡ k = omega arith in
-    c.codes-at.ensures 2 (omega arith) ∙ ap (at xs) i ∙ sym (at_front xs ys k (omega arith))
+    c.codes_at.ensures 2 (omega arith) ∙ ap (at xs) i ∙ sym (at_front xs ys k (omega arith))
 
 pub returns-else-index-before : goal.returns-else-index-before
 returns-else-index-before c = λ k e.
@@ -26,4 +26,4 @@ returns-else-index-before c = λ k e.
     let b = c.count-before.ensures.count in
     let j = c.args.id - 2 - c.count-before.result in
     let i : length xs + j ≡ k = omega arith in
-    c.codes-at-else-index-before.ensures (2 + length bs) (omega arith) ∙ sym (at_back xs ys j) ∙ ap (at (xs ++ ys)) i
+    c.codes_at-else-index-before.ensures (2 + length bs) (omega arith) ∙ sym (at_back xs ys j) ∙ ap (at (xs ++ ys)) i

@@ -9,7 +9,10 @@ pub invariant_of-result : goal.invariant_of-result
 invariant_of-result c =
     let f = c.free_all.ensures in
     let n = ap length f ∙ all_length (take (c.min-n.result - 0) c.args.rows.now) ∙ length-take (c.min-n.result - 0) c.args.rows.now in
-    (omega (arith, n, c.min-n.ensures), (ap distinct f ∙ all_distinct (take (c.min-n.result - 0) c.args.rows.now), tt))
+    record {
+      few = omega (arith, n, c.min-n.ensures);
+      apart = ap distinct f ∙ all_distinct (take (c.min-n.result - 0) c.args.rows.now);
+    }
 
 pub returns : goal.returns
 returns c =

@@ -7,7 +7,7 @@ removed : (c : goal.After-free) → Removed c.args.self.now.buffer.rows.now c.ar
 removed c = delete_known _ _ c.place-at.result _ c.args.self.now.apart c.place-at.ensures (omega (arith, c.len.ensures)) c.free.ensures
 
 pub invariant_of-self : goal.invariant_of-self
-invariant_of-self c = let r = removed c in (omega (arith, r.size, c.args.self.now.few), (r.apart, tt))
+invariant_of-self c = let r = removed c in record { few = omega (arith, r.size, c.args.self.now.few); apart = r.apart }
 
 pub returns-then-at-len : goal.returns-then-at-len
 returns-then-at-len c = deleted_in_list c.args.self.now.buffer.rows.now c.free.new.self.rows.now c.args.imsi.now true (delete_known c.args.self.now.buffer.rows.now _ c.place-at.result _ c.args.self.now.apart c.place-at.ensures (omega (arith, c.len.ensures)) c.free.ensures).done

@@ -20,7 +20,12 @@ invariant_of-result c =
     let cs = c.args.octets.now in
     let e = filled cs c.copy_from_slice.new.self c.copy_from_slice.ensures.after in
     let l = and_from (leb (length cs) 20) (once cs) (le-leb (length cs) 20 (omega arith)) (sym c.if-not-all_once.ensures) in
-    (ap length e ∙ whole cs (omega arith), (omega arith, (ap (λ x. once (take (length cs) x)) e ∙ apart cs l, (ap (drop (length cs)) e ∙ padded cs, tt))))
+    record {
+      whole = ap length e ∙ whole cs (omega arith);
+      few = omega arith;
+      apart = ap (λ x. once (take (length cs) x)) e ∙ apart cs l;
+      padded = ap (drop (length cs)) e ∙ padded cs;
+    }
 
 pub returns : goal.returns
 returns c =
