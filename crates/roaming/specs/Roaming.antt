@@ -1,10 +1,9 @@
 -- Roaming: which entry decides, and what it decides.
-use Rattle.std.specs.Prelude.{ℕ, ◌-◌, Bool, true, false, cond, ◌&&◌, List, [], ◌∷◌, ◌++◌, length, take, Some, None, Ok, Err, Option, Result, ◌==◌, nat_lt}
+use Rattle.std.specs.Prelude.{ℕ, ◌-◌, Bool, true, cond, ◌&&◌, List, [], ◌∷◌, ◌++◌, length, take, Some, None, Ok, Err, Option, Result, ◌==◌, nat_lt}
 use Rattle.std.specs.Option.{option_map}
 use Rattle.std.specs.Str.{bytes_eq}
 use Rattle.numbers.specs.declared.digits.Digits.{Digits}
 use Rattle.numbers.specs.Digit.{digits_in, digits_of}
-use Rattle.numbers.specs.Number.{and_then}
 use Rattle.numbers.specs.Packing.{unpacked}
 use Rattle.operation.specs.declared.user_error.Cause.TheVariants.{PlmnRoamingNotAllowed, OperatorDeterminedBarring}
 use Rattle.subscription.specs.declared.profile.Bar.{Bar}

@@ -1,16 +1,16 @@
 -- The store's calls, over the list of rows.
-use Rattle.std.proofs.Common.{◌≡◌, ℕ, zero, suc, ◌+◌, ◌-◌, ◌<◌, ◌≤◌, Bool, true, false, cond, not, ◌&&◌, ◌||◌, ltb, List, [], ◌∷◌, length, get_or, set, is_some, Some, None, Option, sym, refl, ap, ◌∙◌, subst, arith}
+use Rattle.std.proofs.Common.{◌≡◌, ℕ, ◌+◌, ◌<◌, ◌≤◌, true, false, cond, List, length, get_or, set, Some, None, sym, refl, ap, ◌∙◌, subst, arith}
 use mathlib.Core.Path.{fun_ext}
 use Rattle.std.proofs.lemmas.Bool.{and_parts, lt-ltb}
 use Rattle.std.proofs.lemmas.List.{length-set}
 use Rattle.numbers.specs.declared.imsi.Imsi.{Imsi}
 use Rattle.subscription.specs.declared.stay.Record.{Record}
 use Rattle.store.specs.Calls.{accepted, places_after, Put, Deleted}
-use Rattle.store.specs.Records.{same, place, record_of}
+use Rattle.store.specs.Records.{same, place}
 use Rattle.store.proofs.Keys.{same_decides, place_same}
 use Rattle.store.specs.declared.row.Row.{Row}
-use Rattle.store.specs.Rows.{has, index_of, lookup, unused, distinct, first_unused, blank, freed}
-use Rattle.store.proofs.Tables.{Slot, slot_lookup, slot_distinct, slot_length, one, unused_set, index_slot, index_lookup, index_has, index_past, vacant_slot, vacant_unused, vacant_past}
+use Rattle.store.specs.Rows.{index_of, lookup, unused, distinct, first_unused, blank, freed}
+use Rattle.store.proofs.Tables.{Slot, slot_lookup, slot_distinct, one, unused_set, index_slot, index_lookup, index_has, index_past, vacant_slot, vacant_unused, vacant_past}
 
 abbrev row : Record → Row
 row r = record { used = true; held = r }

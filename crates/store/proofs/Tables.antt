@@ -1,14 +1,14 @@
 -- What reading and writing one row does to the table's meaning.
-use Rattle.std.proofs.Common.{◌≡◌, ℕ, zero, suc, ◌+◌, ◌-◌, ◌<◌, ◌≤◌, Bool, true, false, cond, not, ◌&&◌, ◌||◌, eqb, ltb, ◌⊎◌, List, [], ◌∷◌, map, length, get_or, drop, set, is_some, Some, None, Option, sym, refl, ap, ◌∙◌, subst, inl, inr, arith, rules}
-use Rattle.std.proofs.lemmas.Bool.{cases_Bool, cond-true, cond-false, not-true, and_parts, and_from, and_left, and_right, or_right, or_cases, false≢true, true≢false}
-use Rattle.std.proofs.lemmas.Bool.Decides.{nat_tests, same_from_decides}
+use Rattle.std.proofs.Common.{◌≡◌, ℕ, zero, suc, ◌+◌, ◌<◌, ◌≤◌, Bool, true, false, cond, not, ◌&&◌, ◌||◌, List, [], ◌∷◌, map, length, get_or, drop, set, is_some, Some, None, Option, sym, refl, ap, ◌∙◌, arith}
+use Rattle.std.proofs.lemmas.Bool.{cond-true, cond-false, and_parts, and_from, or_right, false≢true, true≢false}
+use Rattle.std.proofs.lemmas.Bool.Decides.{same_from_decides}
 use Rattle.std.proofs.lemmas.List.{at_drop_more}
 use Rattle.numbers.specs.declared.imsi.Imsi.{Imsi}
 use Rattle.subscription.specs.declared.stay.Record.{Record}
 use Rattle.store.specs.Records.{same, place}
-use Rattle.store.proofs.Keys.{same_decides, same_self}
+use Rattle.store.proofs.Keys.{same_decides}
 use Rattle.store.specs.declared.row.Row.{Row}
-use Rattle.store.specs.Rows.{has, index_of, lookup, unused, distinct, first_unused, blank, freed}
+use Rattle.store.specs.Rows.{has, index_of, lookup, unused, distinct, first_unused, freed}
 
 pub same_flip : (a b : Imsi) → same a b ≡ same b a
 same_flip a b = same_from_decides {P = a ≡ b} (same a b) (same b a) (same_decides a b) (λ t. sym ((same_decides b a).0 t), λ e. (same_decides b a).1 (sym e))

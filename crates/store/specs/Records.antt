@@ -1,5 +1,5 @@
 -- Lists of records.
-use Rattle.std.specs.Prelude.{Bool, true, false, cond, not, ◌&&◌, List, [], ◌∷◌, is_some, Some, None, Option}
+use Rattle.std.specs.Prelude.{Bool, true, cond, not, ◌&&◌, List, [], ◌∷◌, is_some, Some, None, Option}
 use Rattle.numbers.specs.declared.imsi.Imsi.{Imsi}
 use Rattle.numbers.specs.Digit.{same_digits}
 use Rattle.subscription.specs.declared.stay.Record.{Record}

@@ -1,5 +1,5 @@
 -- When codes are listed, and by which value.
-use Rattle.std.proofs.Common.{◌≡◌, ℕ, ◌-◌, Bool, true, false, List, ◌++◌, length, drop, replicate, Some, None, Option, sym, refl, ap, ◌∙◌}
+use Rattle.std.proofs.Common.{◌≡◌, ℕ, ◌-◌, Bool, true, false, List, ◌++◌, length, drop, replicate, Some, None, sym, refl, ap, ◌∙◌}
 use native.Mathlib.Nat.{sub-zero}
 use denote.Struct.Record.{values_one}
 use Rattle.std.proofs.lemmas.List.{drop-replicate}

@@ -1,7 +1,7 @@
-use Rattle.std.proofs.Common.{◌≡◌, ◌-◌, ◌≤◌, true, false, leb, ◌++◌, length, take, drop, replicate, sym, refl, ap, ◌∙◌, arith}
+use Rattle.std.proofs.Common.{leb, length, take, drop, sym, refl, ap, ◌∙◌, arith}
 use Rattle.std.proofs.lemmas.Bool.{and_left, and_right, and_from, lt-leb, le-leb}
 use Rattle.subscription.specs.Once.{once}
-use Rattle.subscription.specs.Holding.{entries, whole, apart, padded}
+use Rattle.subscription.specs.Holding.{whole, apart, padded}
 use Rattle.subscription.proofs.Held.{none, value, filled}
 use Rattle.subscription.proofs.code_list.CodeList.read.Goals as goal
 
