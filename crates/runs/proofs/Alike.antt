@@ -1,8 +1,8 @@
 -- Two registers that differ in the form of their records alone.
-use Rattle.std.proofs.Common.{◌≡◌, ℕ, Bool, List, [], ◌∷◌, ◌++◌, Some, None, Option, sym, refl, ap, ◌∙◌, subst}
+use Rattle.std.proofs.Common.{◌≡◌, ℕ, Bool, List, [], ◌∷◌, ◌++◌, Some, None, Option, refl, ap, subst}
 use Rattle.runs.specs.declared.Numbered.{Numbered}
 use Rattle.runs.specs.Numbering.{find, replaced, first, numbered, numbers_from, number_after}
-use Rattle.runs.specs.Machine.{Aim, to_records, to_dialogue, to_lowest, Outer, Inner, Machine, Entry, State, owned, step, step_of, step_at, fed, ends}
+use Rattle.runs.specs.Machine.{Aim, to_records, to_dialogue, to_lowest, Outer, Inner, Machine, State, owned, step, step_of, step_at, fed, ends}
 
 module _ {R₁ R₂ Dialogue View Call Answer : Type 0} (aim : Call → Aim) (waits : Dialogue → Bool) (inner : View → ℕ → Dialogue → Call → Inner Dialogue Answer) (lost : Answer)
     (view₁ : R₁ → Dialogue → View) (outer₁ : R₁ → ℕ → Call → Outer R₁ Dialogue Answer)

@@ -1,7 +1,7 @@
 -- A run of the code's calls is a run of the definitions.
-use Rattle.std.proofs.Common.{◌≡◌, ℕ, suc, Bool, true, false, cond, List, [], ◌∷◌, ◌++◌, map, is_some, Some, None, Ok, Err, Option, Result, sym, refl, ap, ◌∙◌, subst}
-use Rattle.runs.specs.Machine.{Machine, Entry, State, step}
-use Rattle.runs.specs.Run.{kept, comes_to, Does, returns, leaves, spares, Came, over, next, answers_in}
+use Rattle.std.proofs.Common.{◌≡◌, Bool, List, ◌∷◌, map, is_some, Some, None, Option, Result, refl, ap, ◌∙◌, subst}
+use Rattle.runs.specs.Machine.{Machine, State, step}
+use Rattle.runs.specs.Run.{kept, comes_to, returns, leaves, spares, Came, over, next, answers_in}
 
 module _ (M : Machine) where
   open M use {Records, Dialogue, Call, Answer}

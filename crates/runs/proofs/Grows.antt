@@ -1,12 +1,11 @@
 -- How a thread grows: by a call of the records at its end, or by a call of a dialogue in its midst.
-use Rattle.std.proofs.Common.{◌≡◌, ℕ, suc, ◌<◌, ◌≤◌, Bool, true, false, cond, ◌⊎◌, List, [], ◌∷◌, ◌++◌, Some, None, Option, sym, refl, ap, ◌∙◌, subst, inl, inr, append_assoc, append-nil, arith}
-use Rattle.std.specs.List.{AllByRecursion as All}
+use Rattle.std.proofs.Common.{◌≡◌, ℕ, suc, ◌<◌, ◌≤◌, false, ◌⊎◌, List, [], ◌∷◌, ◌++◌, Some, None, Option, sym, refl, ap, ◌∙◌, subst, inl, inr, append_assoc, append-nil, arith}
 use Rattle.std.proofs.lemmas.Bool.{cases_eq}
 use Rattle.runs.specs.declared.Numbered.{Numbered}
-use Rattle.runs.specs.Numbering.{find, onto, replaced, first, numbered, numbers_from, number_after}
-use Rattle.runs.specs.Machine.{Aim, to_records, to_dialogue, to_lowest, Machine, Outer, Inner, Entry}
-use Rattle.runs.proofs.Numberings.{Below, Quiet, find_mid, find_below, find_other, put_mid, put_other, first_back, first_other, all_put, none_some}
-use Rattle.runs.proofs.Strands.{Seen, tag, forget, waits_seen, Says, Strand, rest, more, over, Heads, Chain, start, head, strand, below}
+use Rattle.runs.specs.Numbering.{find, onto, replaced, first, number_after}
+use Rattle.runs.specs.Machine.{to_dialogue, to_lowest, Machine, Entry}
+use Rattle.runs.proofs.Numberings.{Quiet, find_mid, find_below, find_other, put_mid, put_other, first_back, first_other, all_put, none_some}
+use Rattle.runs.proofs.Strands.{Seen, tag, waits_seen, Says, Strand, rest, more, over, Chain, start, head, strand, below}
 
 module _ (M : Machine) where
   open M use {Records, Dialogue, View, Call, Answer, aim, waits, view, outer, inner, lost}

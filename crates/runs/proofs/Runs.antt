@@ -2,13 +2,13 @@
 use Rattle.std.proofs.Common.{◌≡◌, ℕ, suc, ◌+◌, ◌<◌, ◌≤◌, Bool, true, false, cond, eqb, ◌⊎◌, List, [], ◌∷◌, ◌++◌, map, Some, None, filter, Option, sym, refl, ap, ◌∙◌, subst, inl, inr, append_assoc, append-nil, arith}
 use mathlib.Core.Path.{fun_ext}
 use Rattle.std.specs.List.{flat_map, AllByRecursion as All}
-use Rattle.std.proofs.lemmas.Bool.{cases_eq, eq-eqb, ne_eqb, eqb-true}
+use Rattle.std.proofs.lemmas.Bool.{eq-eqb, ne_eqb, eqb-true}
 use Rattle.std.proofs.lemmas.List.Elements.{filter-append}
 use Rattle.std.proofs.ByRecursion.{All-append, All-push, All-weaker}
 use Rattle.runs.specs.declared.Numbered.{Numbered}
 use Rattle.runs.specs.Numbering.{find, onto, replaced, first, numbered, numbers_from, number_after}
-use Rattle.runs.specs.Machine.{Aim, to_records, to_dialogue, to_lowest, Machine, Outer, Inner, Entry, State, Done, owned, step, step_of, step_at, fed, ends, begin}
-use Rattle.runs.specs.Order.{followed, serial, calls_of, is_number, unowned}
+use Rattle.runs.specs.Machine.{Aim, to_records, to_dialogue, to_lowest, Machine, Entry, State, Done, owned, step, step_of, step_at, fed, ends, begin}
+use Rattle.runs.specs.Order.{serial, calls_of, is_number, unowned}
 use Rattle.runs.specs.Run.{kept, comes_to, Taken, Lawful, Run, still, took, Replays}
 use Rattle.runs.proofs.Numberings.{span, Below, Quiet, none_first, all_put, none_some}
 use Rattle.runs.proofs.Strands.{above, made_once, Seen, tag, forget, forget_append, waits_seen, Heads, Chain, start, head, below, state, plays, goes_fed}

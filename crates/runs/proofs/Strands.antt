@@ -1,10 +1,10 @@
 -- The calls of a run, sorted by dialogue, as a thread that the plain register can follow.
-use Rattle.std.proofs.Common.{◌≡◌, ℕ, suc, ◌+◌, ◌<◌, ◌≤◌, Bool, true, false, cond, ◌⊎◌, List, [], ◌∷◌, ◌++◌, map, Some, None, Option, sym, refl, ap, ◌∙◌, subst, inl, inr, append_assoc, append-nil, arith}
+use Rattle.std.proofs.Common.{◌≡◌, ℕ, suc, ◌+◌, ◌<◌, ◌≤◌, Bool, true, ◌⊎◌, List, [], ◌∷◌, ◌++◌, map, Some, None, Option, sym, refl, ap, ◌∙◌, subst, inl, inr, append_assoc, append-nil, arith}
 use Rattle.std.specs.List.{flat_map, AllByRecursion as All}
 use Rattle.std.proofs.ByRecursion.{All-append, All-weaker}
 use Rattle.runs.specs.declared.Numbered.{Numbered}
-use Rattle.runs.specs.Numbering.{find, onto, replaced, first, numbered, numbers_from, number_after}
-use Rattle.runs.specs.Machine.{Aim, to_records, to_dialogue, to_lowest, Machine, Outer, Inner, Entry, State, Done, owned, step, step_of, step_at, fed, ends, begin}
+use Rattle.runs.specs.Numbering.{onto, replaced, numbered, numbers_from, number_after}
+use Rattle.runs.specs.Machine.{to_records, to_dialogue, to_lowest, Machine, Outer, Inner, Entry, State, Done, owned, step, step_of, step_at, fed, ends, begin}
 use Rattle.runs.specs.Order.{followed}
 use Rattle.runs.proofs.Numberings.{span, Below, Quiet, find_mid, put_mid, first_mid, first_none}
 

@@ -1,5 +1,5 @@
 -- Dialogues under their numbers, in the order of their making.
-use Rattle.std.specs.Prelude.{ℕ, suc, Bool, true, false, cond, List, [], ◌∷◌, ◌++◌, Some, None, Option, ◌==◌}
+use Rattle.std.specs.Prelude.{ℕ, suc, Bool, cond, List, [], ◌∷◌, Some, None, Option, ◌==◌}
 use Rattle.runs.specs.declared.Numbered.{Numbered}
 
 -- the dialogue with the number n

@@ -1,5 +1,5 @@
 -- One dialogue after another.
-use Rattle.std.specs.Prelude.{ℕ, Bool, true, false, List, [], ◌∷◌, ◌++◌, Some, None, filter, Option, ◌==◌}
+use Rattle.std.specs.Prelude.{ℕ, Bool, true, false, List, ◌∷◌, ◌++◌, Some, None, filter, Option, ◌==◌}
 use Rattle.std.specs.List.{flat_map}
 use Rattle.runs.specs.Machine.{Entry}
 

@@ -2,7 +2,7 @@
 use Rattle.std.specs.Prelude.{◌≡◌, ℕ, Bool, false, cond, List, [], ◌∷◌, map, Some, None, Ok, Err, Option, Result}
 use Rattle.std.specs.List.{AllByRecursion as All}
 use Rattle.runs.specs.Numbering.{find}
-use Rattle.runs.specs.Machine.{Aim, to_dialogue, Machine, Entry, State, owned, step, fed, ends}
+use Rattle.runs.specs.Machine.{to_dialogue, Machine, Entry, State, owned, step, fed, ends}
 
 module _ (M : Machine) where
   open M use {Records, Dialogue, View, Call, Answer, aim, waits, view, outer, inner}

@@ -1,4 +1,4 @@
-use Rattle.std.proofs.Common.{◌≡◌, ◌≤◌, length, arith}
+use Rattle.std.proofs.Common.{◌≡◌, length, arith}
 use Rattle.std.proofs.lemmas.List.{length-take-le}
 use Rattle.subscription.specs.Codes.{codes_in}
 use Rattle.side.proofs.Tens.{count_is}

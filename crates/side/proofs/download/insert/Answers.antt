@@ -1,4 +1,4 @@
-use Rattle.std.proofs.Common.{◌≡◌, ℕ, suc, ◌+◌, ◌-◌, Some, ap, ◌∙◌, arith}
+use Rattle.std.proofs.Common.{◌≡◌, suc, ◌-◌, Some, ap, ◌∙◌, arith}
 use Rattle.subscription.specs.Codes.{codes_in}
 use Rattle.side.specs.Download.{at, download, insert_at, later}
 use Rattle.side.proofs.download.insert.Goals as goal

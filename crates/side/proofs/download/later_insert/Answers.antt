@@ -1,4 +1,4 @@
-use Rattle.std.proofs.Common.{◌≡◌, ℕ, ◌+◌, ◌-◌, ◌<◌, ◌≤◌, ◌++◌, length, sym, ap, ◌∙◌, arith}
+use Rattle.std.proofs.Common.{◌≡◌, ◌+◌, ◌-◌, ◌++◌, length, sym, ap, ◌∙◌, arith}
 use Rattle.message.specs.declared.kinds.Service.TheVariants.{Bearer, Teleservice}
 use Rattle.subscription.specs.Codes.{codes_in}
 use Rattle.side.specs.Download.{at, by_tens, numbered}

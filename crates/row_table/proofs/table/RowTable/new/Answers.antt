@@ -1,6 +1,6 @@
-use Rattle.std.proofs.Common.{◌≡◌, ◌-◌, true, map, length, get_or, take, drop, sym, refl, ap, ◌∙◌, subst, arith}
-use Rattle.std.proofs.lemmas.List.{length-take, length-map}
-use Rattle.store.specs.Rows.{freed, distinct, unused, records_in}
+use Rattle.std.proofs.Common.{◌-◌, length, take, ap, ◌∙◌, arith}
+use Rattle.std.proofs.lemmas.List.{length-take}
+use Rattle.store.specs.Rows.{distinct, unused, records_in}
 use Rattle.store.proofs.Tables.{all_distinct, all_unused, all_length}
 use Rattle.store.proofs.RowLists.{all_records}
 use Rattle.row_table.proofs.table.RowTable.new.Goals as goal

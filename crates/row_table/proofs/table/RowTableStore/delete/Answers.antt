@@ -1,4 +1,4 @@
-use Rattle.std.proofs.Common.{◌≡◌, suc, ◌+◌, ◌<◌, ◌≤◌, true, false, length, sym, refl, ap, ◌∙◌, arith}
+use Rattle.std.proofs.Common.{true, false, arith}
 use Rattle.row_table.proofs.table.RowTableStore.delete.Goals as goal
 use Rattle.store.proofs.RowLists.{deleted_in_list}
 use Rattle.store.proofs.Stores.{delete_known, delete_none, Removed}

@@ -1,4 +1,4 @@
-use Rattle.std.proofs.Common.{◌≡◌, ◌<◌, ◌≤◌, length, get_or, Some, None, sym, ap, ◌∙◌, arith}
+use Rattle.std.proofs.Common.{◌<◌, length, get_or, Some, sym, ap, ◌∙◌, arith}
 use Rattle.store.specs.Calls.{imsi_found}
 use Rattle.store.specs.Rows.{index_of}
 use Rattle.store.proofs.RowLists.{records_lookup, found_keyed}

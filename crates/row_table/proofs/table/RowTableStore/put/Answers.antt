@@ -1,4 +1,4 @@
-use Rattle.std.proofs.Common.{◌≡◌, suc, ◌+◌, ◌<◌, ◌≤◌, true, false, length, sym, refl, ap, ◌∙◌, arith}
+use Rattle.std.proofs.Common.{true, false, arith}
 use Rattle.row_table.proofs.table.RowTableStore.put.Goals as goal
 use Rattle.store.proofs.RowLists.{put_in_list}
 use Rattle.store.proofs.Stores.{put_known, put_new, put_full, Wrote}
