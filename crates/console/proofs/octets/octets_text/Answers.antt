@@ -1,4 +1,4 @@
-use Rattle.std.proofs.Common.{◌≡◌, ℕ, ◌+◌, ◌-◌, ◌<◌, [], ◌∷◌, ◌++◌, length, get_or, take, drop, string_bytes, sym, ap, ◌∙◌, append_assoc, arith, lit<, rules}
+use Rattle.std.proofs.Common.{ℕ, ◌-◌, ◌<◌, [], ◌∷◌, ◌++◌, length, get_or, take, drop, string_bytes, sym, ap, ◌∙◌, append_assoc, arith, lit<, rules}
 use Rattle.std.proofs.lemmas.List.{flat_map_more, take_more, take_all}
 use Rattle.std.proofs.lemmas.Slice.{first_rest}
 use Rattle.console.specs.Text.{octet_text, octets_text}

@@ -1,4 +1,4 @@
-use Rattle.std.proofs.Common.{◌≡◌, ◌∷◌, get_or, take, drop, string_bytes}
+use Rattle.std.proofs.Common.{◌≡◌, ◌∷◌, get_or, take, string_bytes}
 use Rattle.console.specs.Text.{octets_text}
 use Rattle.console.proofs.octets.octets_text.Given as goal
 

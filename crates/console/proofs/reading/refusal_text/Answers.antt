@@ -1,6 +1,5 @@
-use Rattle.std.proofs.Common.{◌≡◌, ◌++◌, IfOk, string_bytes, codes, decimal, sym, ap, ◌∙◌, subst}
+use Rattle.std.proofs.Common.{◌≡◌, ◌++◌, IfOk, string_bytes, codes, decimal, ap, ◌∙◌, subst}
 use Rattle.component.specs.Fault.{component_number}
-use Rattle.element.specs.Fault.{layer_number}
 use Rattle.console.specs.Reading.{refused_text}
 use Rattle.console.proofs.reading.refusal_text.Goals as goal
 
