@@ -25,9 +25,9 @@ const LONG_LENGTHS: [&[u8]; 9] = [
 ];
 
 fn check_update(rt: &impl Abort, update: UpdateLocation) -> Result<(), Fail> {
-    assert_eq!(rt; update.imsi.digits.as_slice(), &[0, 0, 1, 0, 1]);
-    assert_eq!(rt; update.msc.digits.as_slice(), &[1, 2]);
-    assert_eq!(rt; update.vlr.digits.as_slice(), &[3, 4]);
+    assert_eq!(rt; update.imsi.digits.as_slice(), [0, 0, 1, 0, 1].as_slice());
+    assert_eq!(rt; update.msc.digits.as_slice(), [1, 2].as_slice());
+    assert_eq!(rt; update.vlr.digits.as_slice(), [3, 4].as_slice());
     Ok(())
 }
 
@@ -66,29 +66,24 @@ const PURGES: [Purge; 8] = [
 ];
 
 impl Purge {
-    fn check(&self, purge: PurgeMs) -> Result<(), Fail> {
+    fn check(&self, rt: &impl Abort, purge: PurgeMs) -> Result<(), Fail> {
         match purge.vlr {
-            Some(vlr) => assert_eq!(vlr.digits.as_slice(), self.vlr),
-            None => assert!(self.vlr.is_empty()),
+            Some(vlr) => assert_eq!(rt; vlr.digits.as_slice(), self.vlr),
+            None => assert!(rt; self.vlr.is_empty()),
         }
         match purge.sgsn {
-            Some(sgsn) => {
-                assert_eq!(sgsn.digits.as_slice(), self.sgsn);
-                Ok(())
-            },
-            None => {
-                assert!(self.sgsn.is_empty());
-                Ok(())
-            },
+            Some(sgsn) => assert_eq!(rt; sgsn.digits.as_slice(), self.sgsn),
+            None => assert!(rt; self.sgsn.is_empty()),
         }
+        Ok(())
     }
 }
 
 #[test]
-fn purges() -> Result<(), Fail> {
+fn purges(rt: HostRuntime) -> Result<(), Fail> {
     for row in &PURGES {
         match argument_of(accepted(row.octets)?)? {
-            Argument::PurgeMs(purge) => row.check(purge)?,
+            Argument::PurgeMs(purge) => row.check(&rt, purge)?,
             _ => return Err(Fail::new("no purge")),
         }
     }
@@ -111,37 +106,26 @@ const HELD: [Held; 5] = [
 ];
 
 impl Held {
-    fn check(&self, argument: Argument) -> Result<(), Fail> {
+    fn check(&self, rt: &impl Abort, argument: Argument) -> Result<(), Fail> {
         match argument {
             Argument::UpdateLocation(update) => match update.lmsi {
-                Some(lmsi) => {
-                    assert_eq!(&lmsi.octets[..], self.value);
-                    Ok(())
-                },
-                None => {
-                    assert!(self.value.is_empty());
-                    Ok(())
-                },
+                Some(lmsi) => assert_eq!(rt; &lmsi.octets[..], self.value),
+                None => assert!(rt; self.value.is_empty()),
             },
             Argument::UpdateGprsLocation(update) => match update.address {
-                GsnAddress::Ipv4(address) => {
-                    assert_eq!(&address[..], self.value);
-                    Ok(())
-                },
-                GsnAddress::Ipv6(address) => {
-                    assert_eq!(&address[..], self.value);
-                    Ok(())
-                },
+                GsnAddress::Ipv4(address) => assert_eq!(rt; &address[..], self.value),
+                GsnAddress::Ipv6(address) => assert_eq!(rt; &address[..], self.value),
             },
-            Argument::PurgeMs(_) => Err(Fail::new("no update")),
+            Argument::PurgeMs(_) => return Err(Fail::new("no update")),
         }
+        Ok(())
     }
 }
 
 #[test]
-fn lmsi_and_address() -> Result<(), Fail> {
+fn lmsi_and_address(rt: HostRuntime) -> Result<(), Fail> {
     for row in &HELD {
-        row.check(argument_of(accepted(row.octets)?)?)?;
+        row.check(&rt, argument_of(accepted(row.octets)?)?)?;
     }
     Ok(())
 }

@@ -64,12 +64,12 @@ const CODES: [Refused; 11] = [
 ];
 
 #[test]
-fn answers_that_are_refused() -> Result<(), Fail> {
-    check_answers(&SIZES, 4)?;
-    check_answers(&TAGS, 5)?;
-    check_answers(&UNREADABLE, 6)?;
-    check_answers(&IDENTIFIERS, 7)?;
-    check_answers(&CODES, 8)
+fn answers_that_are_refused(rt: HostRuntime) -> Result<(), Fail> {
+    check_answers(&rt, &SIZES, 4)?;
+    check_answers(&rt, &TAGS, 5)?;
+    check_answers(&rt, &UNREADABLE, 6)?;
+    check_answers(&rt, &IDENTIFIERS, 7)?;
+    check_answers(&rt, &CODES, 8)
 }
 
 // An answer, a result or an error, with its identifier and code.

@@ -65,17 +65,17 @@ const ELSEWHERE: [Elements; 3] = [
 #[test]
 fn elements_of_arguments(rt: HostRuntime) -> Result<(), Fail> {
     let heap = rt.alloc();
-    check_elements(heap, 2, 0x30, &LOCATIONS)?;
-    check_elements(heap, 23, 0x30, &GPRS_LOCATIONS)?;
-    check_elements(heap, 67, 0xA3, &PURGES)
+    check_elements(&rt, heap, 2, 0x30, &LOCATIONS)?;
+    check_elements(&rt, heap, 23, 0x30, &GPRS_LOCATIONS)?;
+    check_elements(&rt, heap, 67, 0xA3, &PURGES)
 }
 
 #[test]
 fn arguments_under_another_tag(rt: HostRuntime) -> Result<(), Fail> {
     let heap = rt.alloc();
-    check_elements(heap, 2, 0xA3, &ELSEWHERE)?;
-    check_elements(heap, 23, 0xA3, &ELSEWHERE)?;
-    check_elements(heap, 67, 0x30, &ELSEWHERE)
+    check_elements(&rt, heap, 2, 0xA3, &ELSEWHERE)?;
+    check_elements(&rt, heap, 23, 0xA3, &ELSEWHERE)?;
+    check_elements(&rt, heap, 67, 0x30, &ELSEWHERE)
 }
 
 // Invokes with nothing in the argument's place, or an element of another tag, which is not opened.

@@ -104,20 +104,20 @@ const CODES: [Refused; 9] = [
 ];
 
 #[test]
-fn whole_invokes() -> Result<(), Fail> {
-    check_invokes(&SIZES, 4)?;
-    check_invokes(&TAGS, 5)
+fn whole_invokes(rt: HostRuntime) -> Result<(), Fail> {
+    check_invokes(&rt, &SIZES, 4)?;
+    check_invokes(&rt, &TAGS, 5)
 }
 
 #[test]
-fn unreadable_invokes() -> Result<(), Fail> {
-    check_invokes(&OUTER, 6)?;
-    check_invokes(&ELEMENTS, 6)?;
-    check_invokes(&BODY, 6)
+fn unreadable_invokes(rt: HostRuntime) -> Result<(), Fail> {
+    check_invokes(&rt, &OUTER, 6)?;
+    check_invokes(&rt, &ELEMENTS, 6)?;
+    check_invokes(&rt, &BODY, 6)
 }
 
 #[test]
-fn invokes_without_identifier_or_code() -> Result<(), Fail> {
-    check_invokes(&IDENTIFIERS, 7)?;
-    check_invokes(&CODES, 8)
+fn invokes_without_identifier_or_code(rt: HostRuntime) -> Result<(), Fail> {
+    check_invokes(&rt, &IDENTIFIERS, 7)?;
+    check_invokes(&rt, &CODES, 8)
 }

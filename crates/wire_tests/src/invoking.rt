@@ -2,6 +2,7 @@
 use component::invoke::{Invoke, read_invoke};
 use operation::argument::Argument;
 use std::alloc::Global;
+use std::process::Abort;
 use std::test::*;
 
 // An invoke that is accepted.
@@ -29,8 +30,14 @@ pub fn error_of(octets: &[u8]) -> Result<Option<u8>, Fail> {
 }
 
 // The octets of an invoke with the identifier 5, whose argument has this tag and these elements.
-fn invoke(heap: Global, code: u8, tag: u8, elements: &[u8]) -> Result<Vec<u8>, Fail> {
-    assert!(elements.len() < 100);
+fn invoke(
+    rt: &impl Abort,
+    heap: Global,
+    code: u8,
+    tag: u8,
+    elements: &[u8],
+) -> Result<Vec<u8>, Fail> {
+    assert!(rt; elements.len() < 100);
     let len = elements.len() as u8;
     let mut octets = vec![in heap; 0xA1, 8 + len, 0x02, 0x01, 0x05, 0x02, 0x01, code, tag, len]?;
     octets.extend_from_slice(elements)?;
@@ -44,18 +51,24 @@ pub struct Elements {
 }
 
 impl Elements {
-    fn check(&self, heap: Global, code: u8, tag: u8) -> Result<(), Fail> {
+    fn check(&self, rt: &impl Abort, heap: Global, code: u8, tag: u8) -> Result<(), Fail> {
         let elements = self.octets;
-        let octets = invoke(heap, code, tag, elements)?;
-        assert_eq!(error_of(&octets)?, self.error, "{elements:?}");
+        let octets = invoke(rt, heap, code, tag, elements)?;
+        assert_eq!(rt; error_of(&octets)?, self.error, "{elements:?}");
         Ok(())
     }
 }
 
 // Every row is answered so, as an argument with this tag of this operation.
-pub fn check_elements(heap: Global, code: u8, tag: u8, rows: &[Elements]) -> Result<(), Fail> {
+pub fn check_elements(
+    rt: &impl Abort,
+    heap: Global,
+    code: u8,
+    tag: u8,
+    rows: &[Elements],
+) -> Result<(), Fail> {
     for row in rows {
-        row.check(heap, code, tag)?;
+        row.check(rt, heap, code, tag)?;
     }
     Ok(())
 }

@@ -2,6 +2,7 @@
 use component::answer::read_answer;
 use component::fault::ComponentFault;
 use component::invoke::read_invoke;
+use std::process::Abort;
 use std::test::*;
 
 // Octets that are refused, and the place and layer that come with the refusal, if it has them.
@@ -17,27 +18,32 @@ fn place_and_layer(fault: ComponentFault) -> Option<(usize, u8)> {
 }
 
 impl Refused {
-    fn check(&self, fault: Option<ComponentFault>, number: u8) -> Result<(), Fail> {
+    fn check(
+        &self,
+        rt: &impl Abort,
+        fault: Option<ComponentFault>,
+        number: u8,
+    ) -> Result<(), Fail> {
         let octets = self.octets;
         let fault = fault.ok_or("accepted")?;
-        assert_eq!(fault.number(), number, "number of {octets:?}");
-        assert_eq!(place_and_layer(fault), self.spot, "spot in {octets:?}");
+        assert_eq!(rt; fault.number(), number, "number of {octets:?}");
+        assert_eq!(rt; place_and_layer(fault), self.spot, "spot in {octets:?}");
         Ok(())
     }
 }
 
 // Every row is refused as an invoke, with this number.
-pub fn check_invokes(rows: &[Refused], number: u8) -> Result<(), Fail> {
+pub fn check_invokes(rt: &impl Abort, rows: &[Refused], number: u8) -> Result<(), Fail> {
     for row in rows {
-        row.check(read_invoke(row.octets).err(), number)?;
+        row.check(rt, read_invoke(row.octets).err(), number)?;
     }
     Ok(())
 }
 
 // Every row is refused as an answer, with this number.
-pub fn check_answers(rows: &[Refused], number: u8) -> Result<(), Fail> {
+pub fn check_answers(rt: &impl Abort, rows: &[Refused], number: u8) -> Result<(), Fail> {
     for row in rows {
-        row.check(read_answer(row.octets).err(), number)?;
+        row.check(rt, read_answer(row.octets).err(), number)?;
     }
     Ok(())
 }

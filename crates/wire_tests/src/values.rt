@@ -103,15 +103,15 @@ const ADDRESSES: [Elements; 9] = [
 #[test]
 fn values_of_updates(rt: HostRuntime) -> Result<(), Fail> {
     let heap = rt.alloc();
-    check_elements(heap, 2, 0x30, &IMSIS)?;
-    check_elements(heap, 2, 0x30, &MSC_NUMBERS)?;
-    check_elements(heap, 2, 0x30, &VLR_NUMBERS)
+    check_elements(&rt, heap, 2, 0x30, &IMSIS)?;
+    check_elements(&rt, heap, 2, 0x30, &MSC_NUMBERS)?;
+    check_elements(&rt, heap, 2, 0x30, &VLR_NUMBERS)
 }
 
 #[test]
 fn values_of_gprs_updates(rt: HostRuntime) -> Result<(), Fail> {
     let heap = rt.alloc();
-    check_elements(heap, 23, 0x30, &GPRS_IMSIS)?;
-    check_elements(heap, 23, 0x30, &SGSN_NUMBERS)?;
-    check_elements(heap, 23, 0x30, &ADDRESSES)
+    check_elements(&rt, heap, 23, 0x30, &GPRS_IMSIS)?;
+    check_elements(&rt, heap, 23, 0x30, &SGSN_NUMBERS)?;
+    check_elements(&rt, heap, 23, 0x30, &ADDRESSES)
 }
