@@ -1,12 +1,12 @@
 -- Lemmas on numbered lists.
 use Rattle.std.proofs.Common.{◌≡◌, ℕ, zero, suc, ◌+◌, ◌<◌, Bool, true, false, cond, eqb, List, [], ◌∷◌, ◌++◌, Some, None, Option, sym, refl, ap, arith}
-use Rattle.std.specs.List.{AllByRecursion as All}
+use Rattle.std.specs.List.{AllByRecursion}
 use Rattle.std.proofs.lemmas.Bool.{eq-eqb, ne_eqb}
 use Rattle.runs.specs.declared.Numbered.{Numbered}
 use Rattle.runs.specs.Numbering.{find, onto, replaced, first}
 
 abbrev pub Below : {A : Type 0} → ℕ → List (Numbered A) → Type 0
-Below j g = All (λ x. x.number < j) g
+Below j g = AllByRecursion (λ x. x.number < j) g
 
 -- c numbers from k on
 abbrev pub span : ℕ → ℕ → List ℕ
@@ -14,7 +14,7 @@ span k zero = []
 span k (suc c) = span k c ++ (k + c) ∷ []
 
 abbrev pub Quiet : {A : Type 0} → (A → Bool) → List (Numbered A) → Type 0
-Quiet test g = All (λ x. test x.dialogue ≡ false) g
+Quiet test g = AllByRecursion (λ x. test x.dialogue ≡ false) g
 
 pub none_some : {A : Type 0} {a : A} {B : Type 0} → None ≡ Some a → B
 none_some {A} {a} p = let z : ◌≡◌ {A = ℕ} 0 1 = cc in absurd (omega arith)
@@ -54,13 +54,13 @@ module _ {A : Type 0} where
   put_mid j a o [] rest b = rw (eq-eqb j j refl)
   put_mid j a o (x ∷ g) rest b = rw (not_it j x b.0) (ap (λ (t : List (Numbered A)). x ∷ t) (put_mid j a o g rest b.1))
 
-  pub all_put : (P : Numbered A → Type 0) (n : ℕ) (o : Option A) (g : List (Numbered A)) → ((a : A) → o ≡ Some a → P (record { number = n; dialogue = a })) → All P g → All P (replaced n o g)
+  pub all_put : (P : Numbered A → Type 0) (n : ℕ) (o : Option A) (g : List (Numbered A)) → ((a : A) → o ≡ Some a → P (record { number = n; dialogue = a })) → AllByRecursion P g → AllByRecursion P (replaced n o g)
   all_put P n o [] h q = tt
   all_put P n o (x ∷ g) h q =
-      elim (eqb n x.number) as (λ b. All P (cond b (onto n o g) (x ∷ replaced n o g)))
+      elim (eqb n x.number) as (λ b. AllByRecursion P (cond b (onto n o g) (x ∷ replaced n o g)))
       [ true ↦ here o h | false ↦ (q.0, all_put P n o g h q.1) ]
     where
-      here : (o : Option A) → ((a : A) → o ≡ Some a → P (record { number = n; dialogue = a })) → All P (onto n o g)
+      here : (o : Option A) → ((a : A) → o ≡ Some a → P (record { number = n; dialogue = a })) → AllByRecursion P (onto n o g)
       here None h = q.1
       here (Some a) h = (h a refl, q.1)
 

@@ -1,7 +1,7 @@
 -- Every run, one dialogue after another.
 use Rattle.std.proofs.Common.{◌≡◌, ℕ, suc, ◌+◌, ◌<◌, ◌≤◌, Bool, true, false, cond, eqb, ◌⊎◌, List, [], ◌∷◌, ◌++◌, map, Some, None, filter, Option, sym, refl, ap, ◌∙◌, subst, inl, inr, append_assoc, append-nil, arith}
 use mathlib.Core.Path.{fun_ext}
-use Rattle.std.specs.List.{flat_map, AllByRecursion as All}
+use Rattle.std.specs.List.{flat_map, AllByRecursion}
 use Rattle.std.proofs.lemmas.Bool.{eq-eqb, ne_eqb, eqb-true}
 use Rattle.std.proofs.lemmas.List.Elements.{filter-append}
 use Rattle.std.proofs.ByRecursion.{All-append, All-push, All-weaker}
@@ -36,7 +36,7 @@ module _ {T V : Type 0} where
   first_forget test [] = refl
   first_forget test (x ∷ g) = ap (λ (o : Option ℕ). cond (test x.dialogue.dialogue) (Some x.number) o) (first_forget test g)
 
-  found_all : (P : Seen T V → Type 0) (n : ℕ) (x : Seen T V) (g : List (Numbered (Seen T V))) → All (λ y. P y.dialogue) g → find n g ≡ Some x → P x
+  found_all : (P : Seen T V → Type 0) (n : ℕ) (x : Seen T V) (g : List (Numbered (Seen T V))) → AllByRecursion (λ y. P y.dialogue) g → find n g ≡ Some x → P x
   found_all P n x [] q e = none_some e
   found_all P n x (y ∷ g) q e =
       (elim (eqb n y.number) as (λ b. cond b (Some y.dialogue) (find n g) ≡ Some x → P x)
@@ -81,7 +81,7 @@ within_on : (k i j : ℕ) (o : Option ℕ) → i ≤ j → Within k i o → With
 within_on k i j None h q = tt
 within_on k i j (Some n) h q = (q.0, let w = q.1 in omega arith)
 
-found_above : {A : Type 0} (n k : ℕ) (x : A) (g : List (Numbered A)) → All (λ y. k ≤ y.number) g → find n g ≡ Some x → k ≤ n
+found_above : {A : Type 0} (n k : ℕ) (x : A) (g : List (Numbered A)) → AllByRecursion (λ y. k ≤ y.number) g → find n g ≡ Some x → k ≤ n
 found_above n k x [] q e = none_some e
 found_above n k x (y ∷ g) q e = go (eqb n y.number) refl (found_above n k x g q.1)
   where
@@ -92,11 +92,11 @@ found_above n k x (y ∷ g) q e = go (eqb n y.number) refl (found_above n k x g 
 module _ (M : Machine) where
   open M use {Records, Dialogue, View, Call, Answer, aim, waits, view, outer, inner, lost}
 
-  sees_tagged : (r : Records) (j : ℕ) (ds : List Dialogue) → All (λ x. view r x.dialogue.dialogue ≡ x.dialogue.sees) (tagged M r j ds)
+  sees_tagged : (r : Records) (j : ℕ) (ds : List Dialogue) → AllByRecursion (λ x. view r x.dialogue.dialogue ≡ x.dialogue.sees) (tagged M r j ds)
   sees_tagged r j [] = tt
   sees_tagged r j (d ∷ ds) = (refl, sees_tagged r (suc j) ds)
 
-  sees_on : (r r' : Records) (g : List (Numbered (Seen Dialogue View))) → All (λ x. view r' x.dialogue ≡ view r x.dialogue) (forget g) → All (λ x. view r x.dialogue.dialogue ≡ x.dialogue.sees) g → All (λ x. view r' x.dialogue.dialogue ≡ x.dialogue.sees) g
+  sees_on : (r r' : Records) (g : List (Numbered (Seen Dialogue View))) → AllByRecursion (λ x. view r' x.dialogue ≡ view r x.dialogue) (forget g) → AllByRecursion (λ x. view r x.dialogue.dialogue ≡ x.dialogue.sees) g → AllByRecursion (λ x. view r' x.dialogue.dialogue ≡ x.dialogue.sees) g
   sees_on r r' [] p q = tt
   sees_on r r' (x ∷ g) p q = (p.0 ∙ q.0, sees_on r r' g p.1 q.1)
 
@@ -109,9 +109,9 @@ module _ (M : Machine) where
     g : List (Numbered (Seen Dialogue View))
     chain : Chain M (calls_of es) r₀ ds₀ k₀ s.records [] s.next (filter unowned es) g
     dialogues : s.dialogues ≡ forget g
-    sees : All (λ x. view s.records x.dialogue.dialogue ≡ x.dialogue.sees) g
+    sees : AllByRecursion (λ x. view s.records x.dialogue.dialogue ≡ x.dialogue.sees) g
     fresh : (n : ℕ) → s.next ≤ n → calls_of es n ≡ []
-    owners : All (λ e. Within k₀ s.next e.owner) es
+    owners : AllByRecursion (λ e. Within k₀ s.next e.owner) es
 
   module _ (Takes : State Records Dialogue → Call → Type 0) (Sound : State Records Dialogue → Type 0) (L : Lawful M Takes Sound) (r₀ : Records) (ds₀ : List Dialogue) (k₀ : ℕ) where
     -- a call of the records
@@ -124,7 +124,7 @@ module _ (M : Machine) where
           (unsaid M ds s.next v.g (head v.chain e heads) v.fresh));
       dialogues = ap (λ (t : List (Numbered Dialogue)). t ++ numbered s.next ds) v.dialogues ∙ ap (λ (t : List (Numbered Dialogue)). forget v.g ++ t) (sym (forget_tagged M r' s.next ds)) ∙ sym (forget_append v.g (tagged M r' s.next ds));
       sees = All-append (λ x. view r' x.dialogue.dialogue ≡ x.dialogue.sees) v.g (tagged M r' s.next ds)
-          (sees_on s.records r' v.g (subst (λ (t : List (Numbered Dialogue)). All (λ x. view r' x.dialogue ≡ view s.records x.dialogue) t) v.dialogues (L.frozen s c pass so p)) v.sees)
+          (sees_on s.records r' v.g (subst (λ (t : List (Numbered Dialogue)). AllByRecursion (λ x. view r' x.dialogue ≡ view s.records x.dialogue) t) v.dialogues (L.frozen s c pass so p)) v.sees)
           (sees_tagged r' s.next ds);
       owners = All-push (λ e. Within k₀ (number_after s.next ds) e.owner) es e (All-weaker (λ e. Within k₀ s.next e.owner) (λ e. Within k₀ (number_after s.next ds) e.owner) (λ e q. within_on k₀ s.next (number_after s.next ds) e.owner (after_le s.next ds) q) es v.owners) tt;
       fresh = λ n h. same_at n ∙ v.fresh n (let a = after_le s.next ds in omega arith);
@@ -239,7 +239,7 @@ module _ (M : Machine) where
         (runs (es ++ (step M s c).entry ∷ []) run (onward es s c v so h) (L.lasts s c h so))
 
     pub once : {s : State Records Dialogue} {es : List (Entry Call Answer)} → Run M Takes (begin M r₀ ds₀ k₀) es s → Sound (begin M r₀ ds₀ k₀) →
-        (c : ℕ) × (s.next ≡ k₀ + c) × (numbers_from k₀ ds₀ ++ flat_map (λ e. e.made) (filter unowned es) ≡ span k₀ c) × All (λ e. Within k₀ s.next e.owner) es
+        (c : ℕ) × (s.next ≡ k₀ + c) × (numbers_from k₀ ds₀ ++ flat_map (λ e. e.made) (filter unowned es) ≡ span k₀ c) × AllByRecursion (λ e. Within k₀ s.next e.owner) es
     once {s} {es} run so =
         let i = runs [] run (record { owners = tt; g = tagged M r₀ k₀ ds₀; chain = unsaid M ds₀ k₀ [] start (λ m h. refl); dialogues = sym (forget_tagged M r₀ k₀ ds₀); sees = sees_tagged r₀ k₀ ds₀; fresh = λ n h. refl }) so in
         let p = made_once M i.chain in

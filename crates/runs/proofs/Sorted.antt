@@ -1,6 +1,6 @@
 -- One dialogue after another, each kept call stands once.
 use Rattle.std.proofs.Common.{◌≡◌, ℕ, zero, suc, ◌+◌, ◌<◌, ◌≤◌, Bool, true, false, cond, eqb, ◌⊎◌, List, [], ◌∷◌, ◌++◌, length, Some, None, filter, Option, refl, ap, ◌∙◌, subst, inl, inr, arith, length-append}
-use Rattle.std.specs.List.{flat_map, AllByRecursion as All}
+use Rattle.std.specs.List.{flat_map, AllByRecursion}
 use Rattle.std.proofs.lemmas.Bool.{eq-eqb, ne_eqb, cases_eq}
 use Rattle.std.proofs.lemmas.List.Elements.{filter-append}
 use Rattle.runs.specs.Numbering.{numbers_from}
@@ -79,7 +79,7 @@ module _ {C A : Type 0} (p : Entry C A → Bool) where
       omega arith
 
   -- each entry is alone or of one number of the span
-  many_sorted : (k c : ℕ) (es : List (Entry C A)) → All (λ e. Within k (k + c) e.owner) es → many (filter unowned es) + total (λ m. many (calls_of es m)) (span k c) ≡ many es
+  many_sorted : (k c : ℕ) (es : List (Entry C A)) → AllByRecursion (λ e. Within k (k + c) e.owner) es → many (filter unowned es) + total (λ m. many (calls_of es m)) (span k c) ≡ many es
   many_sorted k c [] q = none c
     where
       none : (c : ℕ) → 0 + total (λ m. 0) (span k c) ≡ 0
@@ -107,5 +107,5 @@ module _ (M : Machine) (Takes : State M.Records M.Dialogue → M.Call → Type 0
       let c = many_flat p (calls_of es) (filter unowned es) in
       let d = total_append (λ m. many p (calls_of es m)) (numbers_from k₀ ds₀) (flat_map (λ e. e.made) (filter unowned es)) in
       let e = ap (total (λ m. many p (calls_of es m))) o.2 in
-      let f = many_sorted p k₀ o.0 es (subst (λ (j : ℕ). All (λ e. Within k₀ j e.owner) es) o.1 o.3) in
+      let f = many_sorted p k₀ o.0 es (subst (λ (j : ℕ). AllByRecursion (λ e. Within k₀ j e.owner) es) o.1 o.3) in
       omega (arith, a, b, c, d, e, f)

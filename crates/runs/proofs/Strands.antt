@@ -1,6 +1,6 @@
 -- The calls of a run, sorted by dialogue, as a thread that the plain register can follow.
 use Rattle.std.proofs.Common.{◌≡◌, ℕ, suc, ◌+◌, ◌<◌, ◌≤◌, Bool, true, ◌⊎◌, List, [], ◌∷◌, ◌++◌, map, Some, None, Option, sym, refl, ap, ◌∙◌, subst, inl, inr, append_assoc, append-nil, arith}
-use Rattle.std.specs.List.{flat_map, AllByRecursion as All}
+use Rattle.std.specs.List.{flat_map, AllByRecursion}
 use Rattle.std.proofs.ByRecursion.{All-append, All-weaker}
 use Rattle.runs.specs.declared.Numbered.{Numbered}
 use Rattle.runs.specs.Numbering.{onto, replaced, numbered, numbers_from, number_after}
@@ -170,13 +170,13 @@ module _ (M : Machine) where
       )
 
   pub above : {own : ℕ → List (Entry Call Answer)} {r₀ : Records} {ds₀ : List Dialogue} {k₀ : ℕ} {r : Records} {j : ℕ} {ds : List Dialogue} {es : List (Entry Call Answer)} {g : List (Numbered (Seen Dialogue View))} →
-      Chain own r₀ ds₀ k₀ r ds j es g → All (λ x. k₀ ≤ x.number) g
+      Chain own r₀ ds₀ k₀ r ds j es g → AllByRecursion (λ x. k₀ ≤ x.number) g
   above start = tt
   above (head c e h) = above c
   above {k₀ = k₀} (strand {r = r} {j = j} {g = g} {d = d} c f st) =
       All-append (λ x. k₀ ≤ x.number) g (onto j (tag (view r d) f) []) (above c) (last f)
     where
-      last : (f : Option Dialogue) → All (λ x. k₀ ≤ x.number) (onto j (tag (view r d) f) [])
+      last : (f : Option Dialogue) → AllByRecursion (λ x. k₀ ≤ x.number) (onto j (tag (view r d) f) [])
       last None = tt
       last (Some d') = (let p = made_once c in let q = p.1 in omega arith, tt)
 

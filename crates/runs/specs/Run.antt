@@ -1,6 +1,6 @@
 -- Runs of calls.
 use Rattle.std.specs.Prelude.{◌≡◌, ℕ, Bool, false, cond, List, [], ◌∷◌, map, Some, None, Ok, Err, Option, Result}
-use Rattle.std.specs.List.{AllByRecursion as All}
+use Rattle.std.specs.List.{AllByRecursion}
 use Rattle.runs.specs.Numbering.{find}
 use Rattle.runs.specs.Machine.{to_dialogue, Machine, Entry, State, owned, step, fed, ends}
 
@@ -77,4 +77,4 @@ module _ (M : Machine) where
     -- its calls do not alter where it reads
     pub same : (s : State Records Dialogue) (c : Call) (n : ℕ) (d d' : Dialogue) → Taken Takes Sound s c n d → (inner (view s.records d) n d c).left ≡ Some d' → (r : Records) → view r d' ≡ view r d
     -- and the calls for the records that are taken do not alter what it reads
-    pub frozen : (s : State Records Dialogue) (c : Call) → Takes s c → Sound s → owned M (aim c) s.dialogues ≡ None → All (λ x. view (outer s.records s.next c).records x.dialogue ≡ view s.records x.dialogue) s.dialogues
+    pub frozen : (s : State Records Dialogue) (c : Call) → Takes s c → Sound s → owned M (aim c) s.dialogues ≡ None → AllByRecursion (λ x. view (outer s.records s.next c).records x.dialogue ≡ view s.records x.dialogue) s.dialogues
