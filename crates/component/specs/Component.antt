@@ -1,9 +1,11 @@
 -- Components: refusals 4 to 8 in their order, then what the component holds.
-use Rattle.std.specs.Prelude.{ℕ, Bool, cond, not, ◌||◌, List, length, Some, None, Ok, Err, Option, Result, ◌==◌, nat_lt, slice_index}
+use Rattle.std.specs.Prelude.{ℕ, cond, not, ◌||◌, List, [], ◌∷◌, length, Some, None, Ok, Err, Option, Result, ◌==◌, nat_lt, slice_index}
+use Rattle.std.specs.List.{list_any}
 use Rattle.std.specs.Option.{option_map}
 use Rattle.element.specs.declared.fault.ElementFault.TheVariants as element
 use Rattle.element.specs.declared.fault.Layer.{Layer}
 use Rattle.element.specs.declared.fault.Layer.TheVariants.{Component, Body}
+use Rattle.element.specs.declared.reader.Element.{Element as Outer}
 use Rattle.element.specs.Elements.{Elements, ended, broken, next, elements}
 use Rattle.element.specs.Fault.{spot_at}
 use Rattle.element.specs.Scan.{scanned}
@@ -14,22 +16,22 @@ use Rattle.operation.specs.declared.argument.ArgumentFault.{ArgumentFault}
 use Rattle.component.specs.declared.fault.ComponentFault.{ComponentFault}
 use Rattle.component.specs.declared.fault.ComponentFault.TheVariants.{Size, Tag, Element, Code as BadCode}
 use Rattle.component.specs.declared.invoke.Invoke.{Invoke}
-use Rattle.component.specs.declared.outer.Wanted.{Wanted}
-use Rattle.component.specs.declared.outer.Wanted.TheVariants as wanted
 use Rattle.operation.specs.Argument.{argument_at}
 use Rattle.operation.specs.Steps.{bind}
 use Rattle.component.specs.Reading.{faulty, code_at, identifier_at, request_in}
 
--- the outer tags: A1 for an invoke; A2 or A3, result or error, for an answer
-abbrev pub wants : Wanted → ℕ → Bool
-wants wanted.Invoke t = t == 0xA1
-wants wanted.Answer t = t == 0xA2 || t == 0xA3
+-- the outer tag of an invoke, and those of an answer, which is a result or an error
+abbrev pub invoke_tags : List ℕ
+invoke_tags = 0xA1 ∷ []
 
--- 4: no octets, or above 256; 5: another outer tag; 6: something cannot be read
-abbrev pub admitted : Wanted → List ℕ → Option ComponentFault
-admitted w bs =
+abbrev pub answer_tags : List ℕ
+answer_tags = 0xA2 ∷ 0xA3 ∷ []
+
+-- 4: no octets, or above 256; 5: another outer tag than these; 6: something cannot be read
+abbrev pub admitted : List ℕ → List ℕ → Option ComponentFault
+admitted ts bs =
     cond (length bs == 0 || nat_lt 256 (length bs)) (Some Size) (
-    cond (not (wants w (slice_index bs 0))) (Some Tag) (
+    cond (not (list_any (λ t. t == slice_index bs 0) ts)) (Some Tag) (
     option_map Element (scanned bs)))
 
 -- a component's tag, and the elements inside it
@@ -47,6 +49,15 @@ abbrev pub of_admitted : {A : Type 0} → Option ComponentFault → Result A Com
 of_admitted None r = r
 of_admitted (Some f) r = Err f
 
+-- a component with one of these outer tags
+abbrev pub opened_as : List ℕ → List ℕ → Result Opened ComponentFault
+opened_as ts bs = of_admitted (admitted ts bs) (opened (elements 0 bs))
+
+-- what the code opened
+abbrev pub opened_read : Result Outer ComponentFault → Result Opened ComponentFault
+opened_read (Ok e) = Ok (record { tag = e.tag; inside = elements e.start e.content.now })
+opened_read (Err f) = Err f
+
 abbrev pub invoke_with : ℕ → Result Argument ArgumentFault → Invoke
 invoke_with n a = record { id = n; argument = a }
 
@@ -58,7 +69,7 @@ invoke_in l es =
     Ok (invoke_with a.value (argument_at b.value b.rest))))
 
 abbrev pub invoke_read : List ℕ → Result Invoke ComponentFault
-invoke_read bs = of_admitted (admitted wanted.Invoke bs) (bind (opened (elements 0 bs)) (λ o. invoke_in Component o.inside))
+invoke_read bs = bind (opened_as invoke_tags bs) (λ o. invoke_in Component o.inside)
 
 -- a result's body: nothing, or a 30 element with an operation code
 abbrev pub body_in : Layer → Elements → Result (Option ℕ) ComponentFault
@@ -77,4 +88,4 @@ abbrev pub answer_in : Opened → Result Answer ComponentFault
 answer_in o = cond (o.tag == 0xA2) (result_in Component o.inside) (error_in Component o.inside)
 
 abbrev pub answer_read : List ℕ → Result Answer ComponentFault
-answer_read bs = of_admitted (admitted wanted.Answer bs) (bind (opened (elements 0 bs)) answer_in)
+answer_read bs = bind (opened_as answer_tags bs) answer_in

@@ -1,5 +1,5 @@
 -- What comes next among the elements of a component.
-use Rattle.std.specs.Prelude.{ℕ, cond, ◌&&◌, length, Some, None, Ok, Err, Option, Result, ◌==◌, slice_index}
+use Rattle.std.specs.Prelude.{ℕ, cond, ◌&&◌, length, Ok, Err, Result, ◌==◌, slice_index}
 use Rattle.element.specs.declared.fault.Layer.{Layer}
 use Rattle.element.specs.declared.fault.Spot.{Spot}
 use Rattle.element.specs.Elements.{Elements, ended, broken, next}
@@ -7,6 +7,7 @@ use Rattle.element.specs.Fault.{spot_at}
 use Rattle.component.specs.declared.code.Code.{Code}
 use Rattle.component.specs.declared.fault.ComponentFault.{ComponentFault}
 use Rattle.component.specs.declared.fault.ComponentFault.TheVariants.{Identifier, Code as BadCode}
+use Rattle.octets.specs.declared.range.OutOfRange.{OutOfRange}
 use Rattle.operation.specs.declared.codes.Request.{Request}
 use Rattle.operation.specs.Codes.{request_at}
 use Rattle.operation.specs.Steps.{Read, reading, bind}
@@ -28,9 +29,9 @@ abbrev pub identifier_at : Layer → Elements → Result (Read ℕ) ComponentFau
 identifier_at l es = bind (faulty Identifier (code_at l es)) (λ a. Ok (reading a.value.value a.rest))
 
 -- a code that is no request's is refused at its place
-abbrev pub requested : Option Request → Spot → Elements → Result (Read Request) ComponentFault
-requested None s es = Err (BadCode s)
-requested (Some q) s es = Ok (reading q es)
+abbrev pub requested : Result Request OutOfRange → Spot → Elements → Result (Read Request) ComponentFault
+requested (Err e) s es = Err (BadCode s)
+requested (Ok q) s es = Ok (reading q es)
 
 abbrev pub request_in : Layer → Elements → Result (Read Request) ComponentFault
 request_in l es = bind (faulty BadCode (code_at l es)) (λ a. requested (request_at a.value.value) a.value.spot a.rest)

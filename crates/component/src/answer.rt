@@ -5,12 +5,14 @@ ghost use Rattle.component.specs.Component.{answer_read, error_in, result_in, bo
 
 use super::code::{read_code, read_identifier};
 use super::fault::ComponentFault;
-use super::outer::{Wanted, admit};
-use element::fault::{ElementFault, Layer, Spot};
+use super::outer::open;
+use element::fault::{ElementFault, Layer};
 use element::reader::Reader;
+use element::tag::{ERROR, RESULT};
 
 // A result has an operation code if it has a body. An error's code stands for itself: nothing is compared with it.
-#[derive(Clone, Copy)]
+// No Result: both are what a node sent, and neither is a call's success or failure.
+#[derive(Clone, Copy, Debug, PartialEq, Eq)]
 pub enum Answer {
     Result { id: u8, code: Option<u8> },
     Error { id: u8, code: u8 },
@@ -18,57 +20,47 @@ pub enum Answer {
 
 // The operation code in a result's body, if it has one.
 fn read_body(r: &mut Reader) -> Result<Option<u8>, ComponentFault>
-    ensures { result ≡ body_in r.old.layer (unread r.old) }
+    ensures { result ≡ body_in r.old.spot.layer (unread r.old) }
 {
-    let layer = r.layer;
-    match r.next() {
-        Ok(e) if e.tag == 0x30 => {
-            let mut body = r.inside(e.start, Layer::Body);
-            match read_code(&mut body) {
-                Ok(code) => Ok(Some(code.value)),
-                Err(s) => Err(ComponentFault::Code(s)),
-            }
+    match r.read() {
+        Ok(body) if body.tag == 0x30 => {
+            let code = read_code(&mut body.inside(Layer::Body)).map_err(ComponentFault::Code)?;
+            Ok(Some(code.value))
         }
-        Ok(e) => Err(ComponentFault::Code(Spot {
-            place: e.place,
-            layer,
-        })),
+        Ok(other) => Err(ComponentFault::Code(other.spot)),
         Err(ElementFault::Missing(_)) => Ok(None),
-        Err(ElementFault::Unreadable(s)) => Err(ComponentFault::Code(s)),
+        Err(ElementFault::Unreadable(spot)) => Err(ComponentFault::Code(spot)),
     }
 }
 
-fn read_result(r: &mut Reader) -> Result<Answer, ComponentFault>
-    ensures { result ≡ result_in r.old.layer (unread r.old) }
+fn read_result(mut r: Reader) -> Result<Answer, ComponentFault>
+    ensures { result ≡ result_in r.entry.spot.layer (unread r.entry) }
 {
-    let id = read_identifier(r)?;
-    let code = read_body(r)?;
+    let id = read_identifier(&mut r)?;
+    let code = read_body(&mut r)?;
     Ok(Answer::Result { id, code })
 }
 
-fn read_error(r: &mut Reader) -> Result<Answer, ComponentFault>
-    ensures { result ≡ error_in r.old.layer (unread r.old) }
+// Apart from a result: the code stands in the component itself, and it must be there.
+fn read_error(mut r: Reader) -> Result<Answer, ComponentFault>
+    ensures { result ≡ error_in r.entry.spot.layer (unread r.entry) }
 {
-    let id = read_identifier(r)?;
-    match read_code(r) {
-        Ok(code) => Ok(Answer::Error {
-            id,
-            code: code.value,
-        }),
-        Err(s) => Err(ComponentFault::Code(s)),
-    }
+    let id = read_identifier(&mut r)?;
+    let code = read_code(&mut r).map_err(ComponentFault::Code)?;
+    Ok(Answer::Error {
+        id,
+        code: code.value,
+    })
 }
 
 pub fn read_answer(octets: &[u8]) -> Result<Answer, ComponentFault>
     ensures { result ≡ answer_read octets.now }
 {
-    admit(Wanted::Answer, octets)?;
-    let mut whole = Reader::over(octets);
-    let outer = whole.next()?;
-    let mut r = whole.inside(outer.start, Layer::Component);
-    if outer.tag == 0xA2 {
-        read_result(&mut r)
+    let outer = open(octets, &[RESULT, ERROR])?;
+    let r = outer.inside(Layer::Component);
+    if outer.tag == RESULT {
+        read_result(r)
     } else {
-        read_error(&mut r)
+        read_error(r)
     }
 }

@@ -18,49 +18,32 @@ pub struct Code {
 
 // The identifier or code that comes next; else the place of what stands there.
 pub(crate) fn read_code(r: &mut Reader) -> Result<Code, Spot>
-    ensures value { with_rest result (unread r.new) ≡ code_at r.old.layer (unread r.old) }
-    ensures layer { r.new.layer ≡ r.old.layer }
+    ensures value { with_rest result (unread r.new) ≡ code_at r.old.spot.layer (unread r.old) }
+    ensures layer { r.new.spot.layer ≡ r.old.spot.layer }
 {
-    let layer = r.layer;
-    match r.next() {
-        Ok(e) => {
-            let spot = Spot {
-                place: e.place,
-                layer,
-            };
-            match e.content {
-                [value] if e.tag == 0x02 => Ok(Code {
-                    value: *value,
-                    spot,
-                }),
-                _ => Err(spot),
-            }
-        }
-        Err(ElementFault::Missing(s)) => Err(s),
-        Err(ElementFault::Unreadable(s)) => Err(s),
+    let element = r.read().map_err(ElementFault::spot)?;
+    match element.content {
+        [value] if element.tag == 0x02 => Ok(Code {
+            value: *value,
+            spot: element.spot,
+        }),
+        _ => Err(element.spot),
     }
 }
 
 // The invoke identifier.
 pub(crate) fn read_identifier(r: &mut Reader) -> Result<u8, ComponentFault>
-    ensures value { with_rest result (unread r.new) ≡ identifier_at r.old.layer (unread r.old) }
-    ensures layer { r.new.layer ≡ r.old.layer }
+    ensures value { with_rest result (unread r.new) ≡ identifier_at r.old.spot.layer (unread r.old) }
+    ensures layer { r.new.spot.layer ≡ r.old.spot.layer }
 {
-    match read_code(r) {
-        Ok(code) => Ok(code.value),
-        Err(s) => Err(ComponentFault::Identifier(s)),
-    }
+    let code = read_code(r).map_err(ComponentFault::Identifier)?;
+    Ok(code.value)
 }
 
 // The operation that an invoke asks for.
 pub(crate) fn read_request(r: &mut Reader) -> Result<Request, ComponentFault>
-    ensures { with_rest result (unread r.new) ≡ request_in r.old.layer (unread r.old) }
+    ensures { with_rest result (unread r.new) ≡ request_in r.old.spot.layer (unread r.old) }
 {
-    match read_code(r) {
-        Ok(code) => match Request::from_number(code.value) {
-            Some(request) => Ok(request),
-            None => Err(ComponentFault::Code(code.spot)),
-        },
-        Err(s) => Err(ComponentFault::Code(s)),
-    }
+    let code = read_code(r).map_err(ComponentFault::Code)?;
+    Request::try_from(code.value).map_err(|_| ComponentFault::Code(code.spot))
 }

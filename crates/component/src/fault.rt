@@ -5,7 +5,7 @@ ghost use Rattle.component.specs.Fault.{carried, component_number, component_spo
 use element::fault::{ElementFault, Spot};
 
 // Its octets are none or too many; its outer tag is another one; an element cannot be read; the identifier, or the code, is malformed or missing.
-#[derive(Clone, Copy)]
+#[derive(Clone, Copy, Debug, PartialEq, Eq)]
 pub enum ComponentFault {
     Size,
     Tag,
@@ -15,15 +15,15 @@ pub enum ComponentFault {
 }
 
 impl From<ElementFault> for ComponentFault {
-    ghost from_gives = { λ f r. r ≡ carried f };
+    ghost from_gives = { λ fault carrier. carrier ≡ carried fault };
 
-    fn from(f: ElementFault) -> ComponentFault {
-        ComponentFault::Element(f)
+    fn from(fault: ElementFault) -> ComponentFault {
+        ComponentFault::Element(fault)
     }
 }
 
 impl ComponentFault {
-    // The number of the refusal.
+    // The number of the refusal: a property of the fault beside its place, from which it is not made again, so no conversion.
     pub fn number(self) -> u8
         ensures { result ≡ component_number self }
     {
@@ -42,10 +42,8 @@ impl ComponentFault {
     {
         match self {
             ComponentFault::Size | ComponentFault::Tag => None,
-            ComponentFault::Element(ElementFault::Missing(s)) => Some(s),
-            ComponentFault::Element(ElementFault::Unreadable(s)) => Some(s),
-            ComponentFault::Identifier(s) => Some(s),
-            ComponentFault::Code(s) => Some(s),
+            ComponentFault::Element(element) => Some(element.spot()),
+            ComponentFault::Identifier(spot) | ComponentFault::Code(spot) => Some(spot),
         }
     }
 }

@@ -4,9 +4,9 @@ ghost use Rattle.component.specs.Component.{invoke_read};
 
 use super::code::{read_identifier, read_request};
 use super::fault::ComponentFault;
-use super::outer::{Wanted, admit};
+use super::outer::open;
 use element::fault::Layer;
-use element::reader::Reader;
+use element::tag::INVOKE;
 use operation::argument::{Argument, ArgumentFault};
 use operation::argument_reading::read_argument;
 
@@ -20,10 +20,7 @@ pub struct Invoke {
 pub fn read_invoke(octets: &[u8]) -> Result<Invoke, ComponentFault>
     ensures { result ≡ invoke_read octets.now }
 {
-    admit(Wanted::Invoke, octets)?;
-    let mut whole = Reader::over(octets);
-    let outer = whole.next()?;
-    let mut r = whole.inside(outer.start, Layer::Component);
+    let mut r = open(octets, &[INVOKE])?.inside(Layer::Component);
     let id = read_identifier(&mut r)?;
     let request = read_request(&mut r)?;
     let argument = read_argument(r, request);

@@ -1,6 +1,5 @@
 -- Octets and digits as text.
-use Rattle.std.specs.Prelude.{ℕ, ◌+◌, ◌-◌, ◌*◌, ◌/◌, ◌%◌, cond, ◌&&◌, List, [], ◌∷◌, ◌++◌, map, length, Some, None, Option, ◌==◌, nat_le, nat_lt, slice_index}
-use Rattle.std.specs.List.{flat_map}
+use Rattle.std.specs.Prelude.{ℕ, ◌+◌, ◌-◌, ◌*◌, cond, ◌&&◌, List, length, Some, None, Option, ◌==◌, nat_le, slice_index}
 
 -- the value of a hexadecimal digit: 0 to 9, A to F, a to f
 abbrev pub hex_value : ℕ → Option ℕ
@@ -21,19 +20,3 @@ paired (Some h) (Some l) = Some (h * 16 + l)
 -- the octet that a word of two hexadecimal digits stands for
 abbrev pub octet_of : List ℕ → Option ℕ
 octet_of cs = cond (length cs == 2) (paired (hex_value (slice_index cs 0)) (hex_value (slice_index cs 1))) None
-
--- a hexadecimal digit, in upper case
-abbrev pub hex_digit : ℕ → ℕ
-hex_digit v = cond (nat_lt v 10) (48 + v) (55 + v)
-
-abbrev pub octet_text : ℕ → List ℕ
-octet_text b = hex_digit (b / 16) ∷ hex_digit (b % 16) ∷ []
-
--- octets, two hexadecimal digits each, with a blank between
-abbrev pub octets_text : List ℕ → List ℕ
-octets_text [] = []
-octets_text (b ∷ bs) = octet_text b ++ flat_map (λ c. 32 ∷ octet_text c) bs
-
--- digits as text
-abbrev pub digits_text : List ℕ → List ℕ
-digits_text ds = map (λ d. 48 + d) ds

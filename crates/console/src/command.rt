@@ -1,96 +1,55 @@
 // Commands of a script.
-use super::digits::{number_octets, pack_text};
-use super::octets::octet;
-use std::alloc::{AllocError, Global};
+use super::digits::{digit_octets, number_octets};
+use super::fault::LineFault;
+use super::words::octet;
+use std::alloc::Global;
 use std::str::from_utf8;
 
 #[derive(Drop)]
 pub enum Command {
-    // An empty line or a comment.
-    Nothing,
     Own(Vec<u8>),
     Roam(Vec<u8>, u8),
     Roams(Vec<u8>, u8),
     Rows(u64),
     Read(Vec<u8>),
-    NotUnderstood,
 }
 
-fn read_command(heap: Global, words: &[&str]) -> Result<Command, AllocError> {
-    let mut octets = Vec::new(heap);
-    for word in words {
-        match octet(word) {
-            Some(o) => octets.push(o)?,
-            None => return Ok(Command::NotUnderstood),
-        }
-    }
-    Ok(Command::Read(octets))
-}
-
-fn own_command(heap: Global, number: &str) -> Result<Command, AllocError> {
-    match number_octets(heap, number)? {
-        Some(octets) => Ok(Command::Own(octets)),
-        None => Ok(Command::NotUnderstood),
-    }
+// The octets that words stand for, one each.
+fn word_octets(heap: Global, words: &[&str]) -> Result<Vec<u8>, LineFault> {
+    words
+        .iter()
+        .map(|word| octet(word).ok_or(LineFault::NotUnderstood))
+        .try_collect(heap)
 }
 
 // A decimal number as an octet. One too large for an octet is out of every range, as 255 is.
-fn small(word: &str) -> Option<u8> {
-    match word.parse::<u64>() {
-        Ok(n) if n < 255 => Some(n as u8),
-        Ok(_) => Some(255),
-        Err(_) => None,
-    }
+fn small(word: &str) -> Result<u8, LineFault> {
+    let number = word.parse::<u64>()?;
+    Ok(u8::try_from(number).unwrap_or(u8::MAX))
 }
 
-fn roam_command(heap: Global, digits: &str, class: &str) -> Result<Command, AllocError> {
-    let mut octets = Vec::new(heap);
-    if !pack_text(&mut octets, digits)? {
-        return Ok(Command::NotUnderstood);
-    }
-    match small(class) {
-        Some(class) => Ok(Command::Roam(octets, class)),
-        None => Ok(Command::NotUnderstood),
-    }
-}
-
-fn roams_command(heap: Global, node: &str, bar: &str) -> Result<Command, AllocError> {
-    let Some(bar) = small(bar) else {
-        return Ok(Command::NotUnderstood);
+// What the words of a line ask; nothing if there are none, or if they are a comment.
+fn parse_words(heap: Global, words: &[&str]) -> Result<Option<Command>, LineFault> {
+    let command = match words {
+        [] => return Ok(None),
+        [first, ..] if first.starts_with('#') => return Ok(None),
+        ["own", number] => Command::Own(number_octets(heap, number)?),
+        ["roam", digits, class] => Command::Roam(digit_octets(heap, digits)?, small(class)?),
+        ["roams", node, bar] => Command::Roams(number_octets(heap, node)?, small(bar)?),
+        ["store", "rows", rows] => Command::Rows(rows.parse::<u64>()?),
+        ["read", octets @ ..] => Command::Read(word_octets(heap, octets)?),
+        _ => return Err(LineFault::NotUnderstood),
     };
-    match number_octets(heap, node)? {
-        Some(octets) => Ok(Command::Roams(octets, bar)),
-        None => Ok(Command::NotUnderstood),
-    }
+    Ok(Some(command))
 }
 
-fn rows_command(rows: &str) -> Command {
-    match rows.parse::<u64>() {
-        Ok(n) => Command::Rows(n),
-        Err(_) => Command::NotUnderstood,
-    }
-}
-
-fn parse_words(heap: Global, words: &[&str]) -> Result<Command, AllocError> {
-    match words {
-        [] => Ok(Command::Nothing),
-        [first, ..] if first.starts_with('#') => Ok(Command::Nothing),
-        ["own", number] => own_command(heap, number),
-        ["roam", digits, class] => roam_command(heap, digits, class),
-        ["roams", node, bar] => roams_command(heap, node, bar),
-        ["store", "rows", rows] => Ok(rows_command(rows)),
-        ["read", octets @ ..] => read_command(heap, octets),
-        _ => Ok(Command::NotUnderstood),
-    }
-}
-
-// What a line says. A line that is no text is not understood, unless it is a comment.
-pub fn parse(heap: Global, line: &[u8]) -> Result<Command, AllocError> {
+// What a line asks. A line that is no text is not understood, unless it is a comment.
+pub fn parse(heap: Global, line: &[u8]) -> Result<Option<Command>, LineFault> {
     if let [b'#', ..] = line {
-        return Ok(Command::Nothing);
+        return Ok(None);
     }
     let Ok(text) = from_utf8(line) else {
-        return Ok(Command::NotUnderstood);
+        return Err(LineFault::NotUnderstood);
     };
     let words: Vec<&str> = text.split_ascii_whitespace().collect(heap)?;
     parse_words(heap, words.as_slice())

@@ -3,43 +3,71 @@
 
 mod command;
 mod digits;
-mod octets;
+mod fault;
 mod reading;
 mod setup;
+mod words;
 
 use command::{Command, parse};
-use reading::describe;
+use fault::{LineFault, Refusal};
+use reading::read;
 use setup::Setup;
+use std::alloc::AllocError;
 use std::io;
 use std::io::{BufRead, BufReader};
 
-// Plays one line, the one with this number.
-fn play(rt: &HostRuntime, setup: &mut Setup, number: u64, line: &[u8]) -> io::Result<()> {
-    let heap = rt.alloc();
-    match parse(heap, line)? {
-        Command::Nothing => Ok(()),
-        Command::Own(octets) => rt.println(setup.own(heap, octets.as_slice())?),
-        Command::Roam(digits, class) => rt.println(setup.roam(heap, digits.as_slice(), class)?),
-        Command::Roams(node, bar) => rt.println(setup.roams(heap, node.as_slice(), bar)?),
+// Says that the register refuses what a command asks.
+fn refuse(rt: &HostRuntime, command: &str, refusal: Refusal) -> io::Result<()> {
+    let number = refusal.number();
+    println!(rt; "{command}: refused {number}")
+}
+
+// Plays a command.
+fn play(rt: &HostRuntime, setup: &mut Setup, command: Command) -> io::Result<()> {
+    match command {
+        Command::Own(octets) => match setup.own(octets.as_slice()) {
+            Ok(own) => println!(rt; "own: {own}"),
+            Err(fault) => refuse(rt, "own", fault.into()),
+        },
+        Command::Roam(digits, class) => match setup.roaming.roam(digits.as_slice(), class) {
+            Ok(()) => println!(rt; "roam: done"),
+            Err(fault) => refuse(rt, "roam", fault.into()),
+        },
+        Command::Roams(node, bar) => match setup.roams(node.as_slice(), bar) {
+            Ok(Ok(())) => println!(rt; "roams: allowed"),
+            Ok(Err(cause)) => {
+                let cause = u8::from(cause);
+                println!(rt; "roams: cause {cause}")
+            }
+            Err(refusal) => refuse(rt, "roams", refusal),
+        },
         Command::Rows(rows) => {
             setup.rows = rows;
             println!(rt; "store: rows {rows}")
         }
-        Command::Read(octets) => rt.println(describe(heap, octets.as_slice())?),
-        Command::NotUnderstood => println!(rt; "line {number}: not understood"),
+        Command::Read(octets) => {
+            let reading = read(octets.as_slice());
+            println!(rt; "{reading}")
+        }
+    }
+}
+
+// Plays one line, the one with this number.
+fn play_line(rt: &HostRuntime, setup: &mut Setup, number: u64, line: &[u8]) -> io::Result<()> {
+    match parse(rt.alloc(), line) {
+        Ok(Some(command)) => play(rt, setup, command),
+        Ok(None) => Ok(()),
+        Err(LineFault::NotUnderstood) => println!(rt; "line {number}: not understood"),
+        Err(LineFault::OutOfMemory) => Err(AllocError.into()),
     }
 }
 
 fn main(rt: HostRuntime) -> io::Result<()> {
-    let mut input = BufReader::new(rt.alloc(), rt.stdin())?;
-    let mut line = Vec::new(rt.alloc());
+    let input = BufReader::new(rt.alloc(), rt.stdin())?;
     let mut setup = Setup::new();
-    for number in 1..u64::MAX {
-        line.clear();
-        if input.read_until(b'\n', &mut line)? == 0 {
-            break;
-        }
-        play(&rt, &mut setup, number, line.as_slice())?;
+    for (line, number) in input.split(rt.alloc(), b'\n').zip(1..u64::MAX) {
+        let line = line?;
+        play_line(&rt, &mut setup, number, line.as_slice())?;
     }
     Ok(())
 }

@@ -1,168 +1,135 @@
 // What `read` prints of a component.
-ghost use Rattle.std.specs.Prelude.{◌≡◌, IfOk, string_bytes};
-ghost use Rattle.console.specs.Reading.{address_text, answer_text, answers, argument_text, error_text, gprs_update_text, invoke_text, lmsi_text, purge_text, read_text, refusal_text, result_text, sgsn_text, update_text, vlr_text};
+ghost use Rattle.std.specs.Prelude.{◌≡◌, Some};
+ghost use Rattle.console.specs.Reading.{argument_text, answers, or_none, reading_of, reading_text};
 
-use super::octets::{digits_text, octets_text};
 use component::answer::{Answer, read_answer};
 use component::fault::ComponentFault;
 use component::invoke::{Invoke, read_invoke};
-use numbers::address::{GsnAddress, Lmsi};
-use numbers::node::{SgsnNumber, VlrNumber};
-use operation::argument::{Argument, ArgumentFault, PurgeMs, UpdateGprsLocation, UpdateLocation};
-use std::alloc::{AllocError, Global};
+use element::fault::Spot;
+use element::tag::{ERROR, RESULT};
+use operation::argument::Argument;
+use operation::user_error::UserError;
+use std::fmt;
 
-fn lmsi_text(heap: Global, lmsi: Option<Lmsi>) -> Result<String, AllocError>
-    ensures { IfOk result (λ s. string_bytes s ≡ lmsi_text lmsi) }
-{
-    match lmsi {
-        Some(lmsi) => octets_text(heap, &lmsi.octets),
-        None => String::from_str(heap, "none"),
-    }
-}
+// A value, or the word none.
+#[derive(Clone, Copy)]
+struct OrNone<T>(Option<T>);
 
-fn address_text(heap: Global, address: GsnAddress) -> Result<String, AllocError>
-    ensures { IfOk result (λ s. string_bytes s ≡ address_text address) }
-{
-    match address {
-        GsnAddress::Ipv4(octets) => {
-            let octets = octets_text(heap, &octets)?;
-            format!(in heap; "04 {octets}")
-        }
-        GsnAddress::Ipv6(octets) => {
-            let octets = octets_text(heap, &octets)?;
-            format!(in heap; "50 {octets}")
+impl<T: fmt::Display> fmt::Display for OrNone<T> {
+    ghost output = { λ o. or_none T.output o.0 };
+
+    fn fmt<W: fmt::Write>(&self, f: &mut fmt::Formatter<W>) -> fmt::Result {
+        match &self.0 {
+            Some(value) => value.fmt(f),
+            None => write!(f, "none"),
         }
     }
 }
 
-fn update_text(heap: Global, id: u8, update: UpdateLocation) -> Result<String, AllocError>
-    ensures { IfOk result (λ s. string_bytes s ≡ update_text id update) }
-{
-    let imsi = digits_text(heap, &update.imsi.digits)?;
-    let msc = digits_text(heap, &update.msc.digits)?;
-    let vlr = digits_text(heap, &update.vlr.digits)?;
-    let lmsi = lmsi_text(heap, update.lmsi)?;
-    format!(in heap; "read: invoke {id} update-location {imsi} msc {msc} vlr {vlr} lmsi {lmsi}")
-}
+// What a node asks.
+#[derive(Clone, Copy)]
+struct Asked(Argument);
 
-fn gprs_update_text(heap: Global, id: u8, update: UpdateGprsLocation) -> Result<String, AllocError>
-    ensures { IfOk result (λ s. string_bytes s ≡ gprs_update_text id update) }
-{
-    let imsi = digits_text(heap, &update.imsi.digits)?;
-    let sgsn = digits_text(heap, &update.sgsn.digits)?;
-    let address = address_text(heap, update.address)?;
-    format!(in heap; "read: invoke {id} update-gprs-location {imsi} sgsn {sgsn} address {address}")
-}
+impl fmt::Display for Asked {
+    ghost output = { λ a. Some (argument_text a.0) };
 
-fn vlr_text(heap: Global, vlr: Option<VlrNumber>) -> Result<String, AllocError>
-    ensures { IfOk result (λ s. string_bytes s ≡ vlr_text vlr) }
-{
-    match vlr {
-        Some(vlr) => digits_text(heap, &vlr.digits),
-        None => String::from_str(heap, "none"),
-    }
-}
-
-fn sgsn_text(heap: Global, sgsn: Option<SgsnNumber>) -> Result<String, AllocError>
-    ensures { IfOk result (λ s. string_bytes s ≡ sgsn_text sgsn) }
-{
-    match sgsn {
-        Some(sgsn) => digits_text(heap, &sgsn.digits),
-        None => String::from_str(heap, "none"),
-    }
-}
-
-fn purge_text(heap: Global, id: u8, purge: PurgeMs) -> Result<String, AllocError>
-    ensures { IfOk result (λ s. string_bytes s ≡ purge_text id purge) }
-{
-    let imsi = digits_text(heap, &purge.imsi.digits)?;
-    let vlr = vlr_text(heap, purge.vlr)?;
-    let sgsn = sgsn_text(heap, purge.sgsn)?;
-    format!(in heap; "read: invoke {id} purge-ms {imsi} vlr {vlr} sgsn {sgsn}")
-}
-
-fn argument_text(heap: Global, id: u8, argument: Argument) -> Result<String, AllocError>
-    ensures { IfOk result (λ s. string_bytes s ≡ argument_text id argument) }
-{
-    match argument {
-        Argument::UpdateLocation(update) => update_text(heap, id, update),
-        Argument::UpdateGprsLocation(update) => gprs_update_text(heap, id, update),
-        Argument::PurgeMs(purge) => purge_text(heap, id, purge),
-    }
-}
-
-// The error that an invoke would be answered with.
-fn error_text(heap: Global, id: u8, fault: ArgumentFault) -> Result<String, AllocError>
-    ensures { IfOk result (λ s. string_bytes s ≡ error_text id fault) }
-{
-    let error = fault.error().number();
-    format!(in heap; "read: invoke {id} error {error}")
-}
-
-fn invoke_text(heap: Global, invoke: Invoke) -> Result<String, AllocError>
-    ensures { IfOk result (λ s. string_bytes s ≡ invoke_text invoke) }
-{
-    let id = invoke.id;
-    match invoke.argument {
-        Ok(argument) => argument_text(heap, id, argument),
-        Err(fault) => error_text(heap, id, fault),
-    }
-}
-
-fn result_text(heap: Global, id: u8, code: Option<u8>) -> Result<String, AllocError>
-    ensures { IfOk result (λ s. string_bytes s ≡ result_text id code) }
-{
-    match code {
-        Some(code) => format!(in heap; "read: result {id} code {code}"),
-        None => format!(in heap; "read: result {id} code none"),
-    }
-}
-
-fn answer_text(heap: Global, answer: Answer) -> Result<String, AllocError>
-    ensures { IfOk result (λ s. string_bytes s ≡ answer_text answer) }
-{
-    match answer {
-        Answer::Result { id, code } => result_text(heap, id, code),
-        Answer::Error { id, code } => format!(in heap; "read: error {id} code {code}"),
-    }
-}
-
-fn refusal_text(heap: Global, fault: ComponentFault) -> Result<String, AllocError>
-    ensures { IfOk result (λ s. string_bytes s ≡ refusal_text fault) }
-{
-    let number = fault.number();
-    match fault.spot() {
-        Some(spot) => {
-            let place = spot.place;
-            let layer = spot.layer.number();
-            format!(in heap; "read: refused {number} place {place} layer {layer}")
+    fn fmt<W: fmt::Write>(&self, f: &mut fmt::Formatter<W>) -> fmt::Result {
+        match self.0 {
+            Argument::UpdateLocation(update) => {
+                let imsi = update.imsi.digits;
+                let msc = update.msc.digits;
+                let vlr = update.vlr.digits;
+                let lmsi = OrNone(update.lmsi);
+                write!(f, "update-location {imsi} msc {msc} vlr {vlr} lmsi {lmsi}")
+            }
+            Argument::UpdateGprsLocation(update) => {
+                let imsi = update.imsi.digits;
+                let sgsn = update.sgsn.digits;
+                let address = update.address;
+                write!(
+                    f,
+                    "update-gprs-location {imsi} sgsn {sgsn} address {address}"
+                )
+            }
+            Argument::PurgeMs(purge) => {
+                let imsi = purge.imsi.digits;
+                let vlr = OrNone(purge.vlr.map(|vlr| vlr.digits));
+                let sgsn = OrNone(purge.sgsn.map(|sgsn| sgsn.digits));
+                write!(f, "purge-ms {imsi} vlr {vlr} sgsn {sgsn}")
+            }
         }
-        None => format!(in heap; "read: refused {number}"),
+    }
+}
+
+// What a component holds, or why it is refused.
+#[derive(Clone, Copy)]
+pub enum Reading {
+    Invoke(Invoke),
+    Answer(Answer),
+    Refused(ComponentFault),
+}
+
+impl fmt::Display for Reading {
+    ghost output = { λ r. Some (reading_text r) };
+
+    fn fmt<W: fmt::Write>(&self, f: &mut fmt::Formatter<W>) -> fmt::Result {
+        match self {
+            Reading::Invoke(
+                Invoke {
+                    id,
+                    argument: Ok(argument),
+                },
+            ) => {
+                let argument = Asked(*argument);
+                write!(f, "read: invoke {id} {argument}")
+            }
+            Reading::Invoke(
+                Invoke {
+                    id,
+                    argument: Err(fault),
+                },
+            ) => {
+                let error = UserError::from(*fault).number();
+                write!(f, "read: invoke {id} error {error}")
+            }
+            Reading::Answer(Answer::Result { id, code }) => {
+                let code = OrNone(*code);
+                write!(f, "read: result {id} code {code}")
+            }
+            Reading::Answer(Answer::Error { id, code }) => {
+                write!(f, "read: error {id} code {code}")
+            }
+            Reading::Refused(fault) => {
+                let number = fault.number();
+                let Some(Spot { place, layer }) = fault.spot() else {
+                    return write!(f, "read: refused {number}");
+                };
+                let layer = u8::from(layer);
+                write!(f, "read: refused {number} place {place} layer {layer}")
+            }
+        }
     }
 }
 
 fn is_answer(octets: &[u8]) -> bool
     ensures { result ≡ answers octets.now }
 {
-    match octets {
-        [] => false,
-        [tag, ..] => *tag == 0xA2 || *tag == 0xA3,
-    }
+    matches!(octets, [RESULT | ERROR, ..])
 }
 
 // A component with tag A2 or A3 is taken as a result or an error, any other as an invoke.
-pub fn describe(heap: Global, octets: &[u8]) -> Result<String, AllocError>
-    ensures { IfOk result (λ s. string_bytes s ≡ read_text octets.now) }
+pub fn read(octets: &[u8]) -> Reading
+    ensures { result ≡ reading_of octets.now }
 {
     if is_answer(octets) {
         match read_answer(octets) {
-            Ok(answer) => answer_text(heap, answer),
-            Err(fault) => refusal_text(heap, fault),
+            Ok(answer) => Reading::Answer(answer),
+            Err(fault) => Reading::Refused(fault),
         }
     } else {
         match read_invoke(octets) {
-            Ok(invoke) => invoke_text(heap, invoke),
-            Err(fault) => refusal_text(heap, fault),
+            Ok(invoke) => Reading::Invoke(invoke),
+            Err(fault) => Reading::Refused(fault),
         }
     }
 }

@@ -1,10 +1,9 @@
 -- Elements in a list of octets: a tag octet, a length and the rest.
-use Rattle.std.specs.Prelude.{ℕ, zero, suc, ◌+◌, ◌-◌, ◌*◌, cond, ◌||◌, List, [], ◌∷◌, length, take, drop, Some, None, Ok, Err, Option, Result, ◌==◌, bit_and, nat_le, nat_lt, slice_index, slice_index_or}
-use Rattle.std.specs.List.{between}
+use Rattle.std.specs.Prelude.{◌≡◌, ℕ, zero, suc, ◌+◌, ◌-◌, ◌*◌, cond, ◌||◌, List, [], ◌∷◌, length, take, drop, Some, None, Ok, Err, Option, Result, ◌==◌, bit_and, nat_le, nat_lt, slice_index, slice_index_or}
 use Rattle.element.specs.declared.fault.ElementFault.{ElementFault}
 use Rattle.element.specs.declared.fault.ElementFault.TheVariants.{Missing, Unreadable}
 use Rattle.element.specs.declared.reader.Reader.{Reader}
-use Rattle.element.specs.declared.reading.Element.{Element}
+use Rattle.element.specs.declared.reader.Element.{Element}
 use Rattle.element.specs.declared.reading.Head.{Head}
 
 -- what stands at the front of octets: an element, by its tag, the octets of its tag and length, and those of its content, or nothing that can be read
@@ -49,12 +48,9 @@ elements_after zero p (b ∷ bs) =
 abbrev pub elements : ℕ → List ℕ → Elements
 elements p bs = elements_after 0 p bs
 
--- the octets that a reader has yet to read, and their elements
-abbrev pub window : Reader → List ℕ
-window r = between r.at r.end r.octets.now
-
+-- the elements that a reader has yet to read
 abbrev pub unread : Reader → Elements
-unread r = elements r.at (window r)
+unread r = elements r.spot.place r.rest.now
 
 -- what was read, with the elements after it
 abbrev pub fault_read : ElementFault → Elements
@@ -62,9 +58,16 @@ fault_read (Missing s) = ended s.place
 fault_read (Unreadable s) = broken s.place
 
 abbrev pub read_off : Result Element ElementFault → Elements → Elements
-read_off (Ok e) es = next e.tag e.place e.start e.content.now es
+read_off (Ok e) es = next e.tag e.spot.place e.start e.content.now es
 read_off (Err f) es = fault_read f
 
+-- a step of an iteration: the element that comes next, or the fault at one that cannot be read, after which nothing is left to read; none at the end
+abbrev pub NextElement : Reader → Option (Result Element ElementFault) → Reader → Type 0
+NextElement r None s = (unread r ≡ ended r.spot.place) × (s ≡ r)
+NextElement r (Some (Ok e)) s = (read_off (Ok e) (unread s) ≡ unread r) × (s.spot.layer ≡ r.spot.layer)
+NextElement r (Some (Err f)) s = (f ≡ Unreadable r.spot) × (unread r ≡ broken r.spot.place) × (unread s ≡ ended s.spot.place)
+
+-- what a head tells of the octets that it stands before
 abbrev pub head_front : Option Head → Front
 head_front None = unreadable
-head_front (Some h) = element h.tag h.size h.len
+head_front (Some h) = element h.tag h.size (length h.content.now)

@@ -5,3 +5,4 @@ pub mod fault;
 pub mod reader;
 pub mod reading;
 pub mod scan;
+pub mod tag;

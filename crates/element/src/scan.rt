@@ -6,14 +6,14 @@ ghost use Rattle.element.specs.Scan.{body_at, first_broken, scan_from, scanned};
 
 use super::fault::{ElementFault, Layer, Spot};
 use super::reader::Reader;
+use super::tag::{INVOKE, RESULT};
 
 // Refuses the first element that cannot be read.
 fn scan_body(r: Reader) -> Result<(), ElementFault>
-    ensures { result_err result ≡ first_broken r.entry.layer (unread r.entry) }
+    ensures { result_err result ≡ first_broken r.entry.spot.layer (unread r.entry) }
 {
-    let mut r = r;
-    while r.at < r.end {
-        r.next()?;
+    for element in r {
+        element?;
     }
     Ok(())
 }
@@ -23,23 +23,20 @@ fn is_body(outer: u8, index: usize, tag: u8) -> bool
     ensures { result ≡ body_at outer index tag }
 {
     match (outer, index) {
-        (0xA1, 2) | (0xA2, 1) => tag == 0x30 || tag == 0xA3,
+        (INVOKE, 2) | (RESULT, 1) => tag == 0x30 || tag == 0xA3,
         _ => false,
     }
 }
 
 // Refuses the first element of a component that cannot be read; the body's elements come before the next one.
 fn scan_elements(r: Reader, outer: u8) -> Result<(), ElementFault>
-    ensures { result_err result ≡ scan_from r.entry.layer outer 0 (unread r.entry) }
+    ensures { result_err result ≡ scan_from r.entry.spot.layer outer 0 (unread r.entry) }
 {
-    let mut r = r;
-    let mut index = 0;
-    while r.at < r.end {
-        let e = r.next()?;
-        if is_body(outer, index, e.tag) {
-            scan_body(r.inside(e.start, Layer::Body))?;
+    for (index, element) in r.enumerate() {
+        let element = element?;
+        if is_body(outer, index, element.tag) {
+            scan_body(element.inside(Layer::Body))?;
         }
-        index += 1;
     }
     Ok(())
 }
@@ -49,12 +46,12 @@ pub fn scan_component(octets: &[u8]) -> Result<(), ElementFault>
     ensures { result_err result ≡ scanned octets.now }
 {
     let mut r = Reader::over(octets);
-    let outer = r.next()?;
-    if r.at != r.end {
+    let outer = r.read()?;
+    if !r.rest.is_empty() {
         return Err(ElementFault::Unreadable(Spot {
             place: 0,
             layer: Layer::Component,
         }));
     }
-    scan_elements(r.inside(outer.start, Layer::Component), outer.tag)
+    scan_elements(outer.inside(Layer::Component), outer.tag)
 }

@@ -1,7 +1,6 @@
 // Cancel Location, operation 3.
-ghost use Rattle.std.specs.Prelude.{◌≡◌, ◌≤◌};
+ghost use Rattle.std.specs.Prelude.{◌≡◌, ◌≤◌, length};
 ghost use Rattle.message.specs.Messages.{cancel, identity};
-ghost use Rattle.message.specs.Writing.{written};
 
 use super::kinds::CancelType;
 use super::message::Message;
@@ -12,8 +11,8 @@ use operation::codes::Operation;
 
 // Whom a cancel is about: 04 IMSI or, if the stay has an LMSI, 30 holding 04 IMSI and 04 LMSI.
 fn identity_element(imsi: Imsi, lmsi: Option<Lmsi>) -> Message
-    ensures all { written result ≡ identity imsi lmsi }
-    ensures size { result.len ≤ 18 }
+    ensures all { result ≡ identity imsi lmsi }
+    ensures size { length result ≤ 18 }
 {
     let mut message = Message::empty();
     match lmsi {
@@ -30,9 +29,9 @@ fn identity_element(imsi: Imsi, lmsi: Option<Lmsi>) -> Message
 
 // A cancel is the first and only invoke of its dialogue.
 pub fn cancel_location(imsi: Imsi, lmsi: Option<Lmsi>, reason: CancelType) -> Message
-    ensures { written result ≡ cancel imsi lmsi reason }
+    ensures { result ≡ cancel imsi lmsi reason }
 {
     let mut argument = identity_element(imsi, lmsi);
-    argument.put(0x0A, &[reason.number()]);
+    argument.put(0x0A, &[u8::from(reason)]);
     invoke(1, Operation::CancelLocation, argument.as_slice())
 }

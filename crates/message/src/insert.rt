@@ -1,7 +1,7 @@
 // Insert Subscriber Data, operation 7: what a download is made of.
 ghost use Rattle.std.specs.Prelude.{◌≡◌, ◌*◌, ◌≤◌, length, take};
 ghost use Rattle.message.specs.Messages.{circuit_insert, codes_insert, packet_insert};
-ghost use Rattle.message.specs.Writing.{codes_in, written};
+ghost use Rattle.message.specs.Writing.{codes_in};
 
 use super::kinds::{AccessMode, Service};
 use super::message::Message;
@@ -12,7 +12,7 @@ use operation::codes::Operation;
 
 // Insert 1 for the circuit side. The IMSI stands in front in a dialogue that the register itself starts.
 pub fn circuit_insert(imsi: Option<Imsi>, msisdn: Msisdn, category: u8) -> Message
-    ensures { written result ≡ circuit_insert imsi msisdn category }
+    ensures { result ≡ circuit_insert imsi msisdn category }
 {
     let mut argument = Message::empty();
     argument.put_optional_imsi(imsi);
@@ -22,23 +22,23 @@ pub fn circuit_insert(imsi: Option<Imsi>, msisdn: Msisdn, category: u8) -> Messa
     invoke(1, Operation::InsertSubscriberData, argument.as_slice())
 }
 
-// Insert 1 for the packet side.
+// Insert 1 for the packet side. Apart from the circuit side's: other elements stand in it, in other places.
 pub fn packet_insert(imsi: Option<Imsi>, msisdn: Msisdn, mode: AccessMode) -> Message
-    ensures { written result ≡ packet_insert imsi msisdn mode }
+    ensures { result ≡ packet_insert imsi msisdn mode }
 {
     let mut argument = Message::empty();
     argument.put_optional_imsi(imsi);
     argument.put_number(0x81, &msisdn.digits);
     argument.put(0x83, &[0]);
-    argument.put(0x98, &[mode.number()]);
+    argument.put(0x98, &[u8::from(mode)]);
     invoke(1, Operation::InsertSubscriberData, argument.as_slice())
 }
 
 // Up to ten codes, each 04 01 and the octet.
 fn code_elements(codes: &[u8]) -> Message
     requires { length codes.now ≤ 10 }
-    ensures all { written result ≡ codes_in codes.now }
-    ensures size { result.len ≡ 3 * length codes.now }
+    ensures all { result ≡ codes_in codes.now }
+    ensures size { length result ≡ 3 * length codes.now }
 {
     let mut elements = Message::empty();
     for code in codes {
@@ -52,15 +52,14 @@ fn next_ten(left: &[u8]) -> &[u8]
     ensures front { result.now ≡ take 10 left.now }
     ensures few { length result.now ≤ 10 }
 {
-    if left.len() > 10 { &left[0..10] } else { left }
+    &left[..left.len().min(10)]
 }
 
 // A later insert: the next ten of the codes that are left, or all of them.
 pub fn codes_insert(id: u8, service: Service, left: &[u8]) -> Message
-    ensures { written result ≡ codes_insert id service left.now }
+    ensures { result ≡ codes_insert id service left.now }
 {
     let codes = code_elements(next_ten(left));
-    let mut argument = Message::empty();
-    argument.put(service.tag(), codes.as_slice());
+    let argument = Message::element(service.tag(), codes.as_slice());
     invoke(id, Operation::InsertSubscriberData, argument.as_slice())
 }

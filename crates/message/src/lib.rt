@@ -8,4 +8,3 @@ pub mod message;
 pub mod outcome;
 mod parts;
 pub mod worked;
-pub mod writing;

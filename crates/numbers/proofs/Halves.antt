@@ -1,69 +1,53 @@
--- The halves of octets, one by one.
-use Rattle.std.proofs.Common.{◌≡◌, ℕ, zero, suc, ◌+◌, ◌-◌, ◌*◌, ◌/◌, ◌%◌, ◌<◌, ◌≤◌, Bool, true, false, cond, eqb, List, [], ◌∷◌, length, get_or, sym, refl, ap, ◌∙◌, arith}
-use Rattle.std.proofs.lemmas.Bool.{eq-eqb, ne_eqb}
-use Rattle.numbers.specs.Packing.{unpacked, half_at}
+-- The halves of octets.
+use Rattle.std.proofs.Common.{◌≡◌, ℕ, zero, suc, ◌+◌, ◌/◌, ◌%◌, ◌<◌, ◌≤◌, false, true, cond, eqb, List, [], ◌∷◌, ◌++◌, length, get_or, take, drop, None, sym, refl, ap, ◌∙◌, inl, inr, arith}
+use Rattle.std.specs.List.{flat_map}
+use Rattle.std.proofs.lemmas.List.{flat_map_more, length-append, take_more}
+use Rattle.std.proofs.lemmas.Bool.{cases_lt, eq-eqb, ne_eqb, true≢false}
+use Rattle.numbers.specs.Packing.{unpacked}
+use Rattle.numbers.specs.Digit.{digits_of}
+use Rattle.numbers.proofs.Held.{none_above, none_wrong}
 
--- F fills the last octet
-pub long_filled : (b : ℕ) (bs : List ℕ) → get_or (b ∷ bs) (length bs) 0 / 16 ≡ 15 → length (unpacked (b ∷ bs)) ≡ 2 * length bs + 1
-long_filled b [] e = ap (λ v. length (b % 16 ∷ cond v [] (b / 16 ∷ []))) (eq-eqb (b / 16) 15 e)
-long_filled b (c ∷ bs) e = ap (λ n. suc (suc n)) (long_filled c bs e) ∙ omega arith
+-- both halves of each octet, low half first
+abbrev pub halves : List ℕ → List ℕ
+halves bs = flat_map (λ b. b % 16 ∷ b / 16 ∷ []) bs
 
--- it does not
-pub long_whole : (b : ℕ) (bs : List ℕ) → (get_or (b ∷ bs) (length bs) 0 / 16 ≡ 15 → ⊥) → length (unpacked (b ∷ bs)) ≡ 2 * length bs + 2
-long_whole b [] e = ap (λ v. length (b % 16 ∷ cond v [] (b / 16 ∷ []))) (ne_eqb (b / 16) 15 e)
-long_whole b (c ∷ bs) e = ap (λ n. suc (suc n)) (long_whole c bs e) ∙ omega arith
+pub halves_more : (bs : List ℕ) (i : ℕ) → i < length bs → halves (take (i + 1) bs) ≡ halves (take i bs) ++ get_or bs i 0 % 16 ∷ get_or bs i 0 / 16 ∷ []
+halves_more bs i h =
+    ap halves (take_more bs i 0 h) ∙ sym (flat_map_more (λ b. b % 16 ∷ b / 16 ∷ []) [] (take i bs) (get_or bs i 0))
 
-pub count_filled : (bs : List ℕ) → get_or bs (length bs - 1) 0 / 16 ≡ 15 → 2 * length bs - 1 ≡ length (unpacked bs)
-count_filled [] e = absurd (omega arith)
-count_filled (b ∷ bs) e =
-    let n : suc (length bs) - 1 ≡ length bs = omega arith in
-    let r = long_filled b bs (ap (λ k. get_or (b ∷ bs) k 0 / 16) (sym n) ∙ e) in omega arith
+-- an F that fills the last octet is no digit
+pub unpacked_last : (bs : List ℕ) (b : ℕ) → unpacked (bs ++ b ∷ []) ≡ halves bs ++ b % 16 ∷ cond (eqb (b / 16) 15) [] (b / 16 ∷ [])
+unpacked_last [] b = refl
+unpacked_last (c ∷ []) b = refl
+unpacked_last (c ∷ d ∷ bs) b = ap (λ ds. c % 16 ∷ c / 16 ∷ ds) (unpacked_last (d ∷ bs) b)
 
-pub count_whole : (bs : List ℕ) → (get_or bs (length bs - 1) 0 / 16 ≡ 15 → ⊥) → 2 * length bs ≡ length (unpacked bs)
-count_whole [] e = refl
-count_whole (b ∷ bs) e =
-    let n : suc (length bs) - 1 ≡ length bs = omega arith in
-    let r = long_whole b bs (λ f. e (ap (λ k. get_or (b ∷ bs) k 0 / 16) n ∙ f)) in omega arith
+pub unpacked_filled : (bs : List ℕ) (b : ℕ) → b / 16 ≡ 15 → unpacked (bs ++ b ∷ []) ≡ halves bs ++ b % 16 ∷ []
+unpacked_filled bs b h = unpacked_last bs b ∙ ap (λ v. halves bs ++ b % 16 ∷ cond v [] (b / 16 ∷ [])) (eq-eqb (b / 16) 15 h)
 
-pub count_none : (bs : List ℕ) → length bs < 1 → 2 * length bs ≡ length (unpacked bs)
-count_none [] e = refl
-count_none (b ∷ bs) e = absurd (omega arith)
+pub unpacked_whole : (bs : List ℕ) (b : ℕ) → (b / 16 ≡ 15 → ⊥) → unpacked (bs ++ b ∷ []) ≡ halves bs ++ b % 16 ∷ b / 16 ∷ []
+unpacked_whole bs b h = unpacked_last bs b ∙ ap (λ v. halves bs ++ b % 16 ∷ cond v [] (b / 16 ∷ [])) (ne_eqb (b / 16) 15 h)
 
--- at least one half of each octet
-pub long : (bs : List ℕ) → 2 * length bs ≤ length (unpacked bs) + 1
-long [] = omega arith
-long (b ∷ []) = omega arith
-long (b ∷ c ∷ bs) = let r = long (c ∷ bs) in omega arith
+-- the halves of an octet before the last one, among the others
+pub unpacked_at : (bs : List ℕ) (b i : ℕ) → i < length bs →
+    unpacked (bs ++ b ∷ []) ≡ halves (take i bs) ++ get_or bs i 0 % 16 ∷ get_or bs i 0 / 16 ∷ unpacked (drop (suc i) bs ++ b ∷ [])
+unpacked_at [] b i h = absurd (omega arith)
+unpacked_at (c ∷ []) b zero h = refl
+unpacked_at (c ∷ d ∷ bs) b zero h = refl
+unpacked_at (c ∷ []) b (suc i) h = absurd (omega arith)
+unpacked_at (c ∷ d ∷ bs) b (suc i) h = ap (λ ds. c % 16 ∷ c / 16 ∷ ds) (unpacked_at (d ∷ bs) b i (omega arith))
 
-one_more : (b : ℕ) (v : Bool) → 1 < length (b % 16 ∷ cond v [] (b / 16 ∷ [])) → get_or (cond v [] (b / 16 ∷ [])) 0 0 ≡ b / 16
-one_more b true h = absurd (omega arith)
-one_more b false h = refl
+not_taken : (ds : List ℕ) (d : ℕ) (es : List ℕ) → ((d ≤ 9) × (length ds < 15) → ⊥) → digits_of (ds ++ d ∷ es) ≡ None
+not_taken ds d es h =
+    elim (cases_lt 9 d) [
+      | inl wrong ↦ none_wrong ds d es wrong
+      | inr right ↦ elim (cases_lt (length ds) 15) [
+        | inl room ↦ absurd (h (right, room))
+        | inr full ↦ none_above (ds ++ d ∷ es) (let n = length-append ds (d ∷ es) in omega arith)
+      ]
+    ]
 
-no_more : (b i : ℕ) (v : Bool) → suc (suc i) < length (b % 16 ∷ cond v [] (b / 16 ∷ [])) → ⊥
-no_more b i true h = omega arith
-no_more b i false h = omega arith
-
-two : (b : ℕ) (v : Bool) → length (b % 16 ∷ cond v [] (b / 16 ∷ [])) ≤ 2
-two b true = omega arith
-two b false = omega arith
-
-pub half_is : (bs : List ℕ) (i : ℕ) → i < length (unpacked bs) → get_or (unpacked bs) i 0 ≡ half_at bs i
-half_is [] i h = absurd (omega arith)
-half_is (b ∷ []) zero h = refl
-half_is (b ∷ []) (suc zero) h = one_more b (eqb (b / 16) 15) h
-half_is (b ∷ []) (suc (suc i)) h = absurd (no_more b i (eqb (b / 16) 15) h)
-half_is (b ∷ c ∷ bs) zero h = refl
-half_is (b ∷ c ∷ bs) (suc zero) h = refl
-half_is (b ∷ c ∷ bs) (suc (suc i)) h =
-    let m : i % 2 ≡ suc (suc i) % 2 = omega arith in
-    let q : suc (i / 2) ≡ suc (suc i) / 2 = omega arith in
-    half_is (c ∷ bs) i (omega arith)
-    ∙ ap (λ k. cond (eqb k 0) (get_or (c ∷ bs) (i / 2) 0 % 16) (get_or (c ∷ bs) (i / 2) 0 / 16)) m
-    ∙ ap (λ k. cond (eqb (suc (suc i) % 2) 0) (get_or (b ∷ c ∷ bs) k 0 % 16) (get_or (b ∷ c ∷ bs) k 0 / 16)) q
-
-pub half_within : (bs : List ℕ) (i : ℕ) → i < length (unpacked bs) → i / 2 < length bs
-half_within [] i h = absurd (omega arith)
-half_within (b ∷ []) i h = let n = two b (eqb (b / 16) 15) in omega arith
-half_within (b ∷ c ∷ bs) zero h = omega arith
-half_within (b ∷ c ∷ bs) (suc zero) h = omega arith
-half_within (b ∷ c ∷ bs) (suc (suc i)) h = let r = half_within (c ∷ bs) i (omega arith) in omega arith
+-- a digit among the halves that cannot be taken after those before it
+pub refused : (os bs : List ℕ) (b : ℕ) (ds : List ℕ) (d : ℕ) (es : List ℕ) →
+    os ≡ bs ++ b ∷ [] → unpacked (bs ++ b ∷ []) ≡ ds ++ d ∷ es → ((d ≤ 9) × (length ds < 15) → false ≡ true) → None ≡ digits_of (unpacked os)
+refused os bs b ds d es whole parts h =
+    sym (ap digits_of (ap unpacked whole ∙ parts) ∙ not_taken ds d es (λ p. true≢false (sym (h p))))

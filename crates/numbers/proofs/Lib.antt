@@ -1,5 +1,4 @@
-pub mod Halves
 pub mod Held
-pub mod Octets
+pub mod Halves
 pub mod Numbered
 pub mod Rounds

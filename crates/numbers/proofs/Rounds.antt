@@ -1,9 +1,8 @@
 -- Round trips: what is written is read back, and what is read is written back.
-use Rattle.std.proofs.Common.{◌≡◌, ℕ, suc, ◌+◌, ◌*◌, ◌/◌, ◌%◌, ◌≤◌, Bool, true, false, cond, ◌&&◌, eqb, leb, List, [], ◌∷◌, length, get_or, drop, Some, None, Option, sym, refl, ap, ◌∙◌, arith}
+use Rattle.std.proofs.Common.{◌≡◌, ℕ, ◌+◌, ◌*◌, ◌/◌, ◌%◌, ◌≤◌, Bool, true, false, cond, ◌&&◌, eqb, leb, List, [], ◌∷◌, length, get_or, drop, Some, None, Option, sym, refl, ap, ◌∙◌, arith}
 use Rattle.std.specs.Option.{option_map}
 use Rattle.std.proofs.lemmas.Slice.Eq.{bytes_eq-Decides}
-use Rattle.std.proofs.lemmas.List.{take_at}
-use Rattle.std.proofs.lemmas.Bool.{and_from, and_parts, le-leb, leb-true, eqb-true, ne_eqb}
+use Rattle.std.proofs.lemmas.Bool.{and_parts, leb-true, eqb-true, ne_eqb}
 use Rattle.std.proofs.lemmas.Bool.Decides.{Decides-like}
 use Rattle.numbers.specs.declared.address.GsnAddress.{GsnAddress}
 use Rattle.numbers.specs.declared.address.GsnAddress.TheVariants.{Ipv4, Ipv6}
@@ -13,11 +12,11 @@ use Rattle.numbers.specs.Packing.{unpacked, packed, decimal, digital}
 use Rattle.numbers.specs.Digit.{digits_in, digits_of, held, same_digits}
 use Rattle.numbers.specs.Number.{and_then, long_imsi, imsi_holding, imsi_of, number_of, number_octets, address_of, address_octets}
 use Rattle.numbers.specs.Laws.{NumberLaws}
-use Rattle.numbers.proofs.Held.{long, all, same, value, decimal_in, digital_from}
+use Rattle.numbers.proofs.Held.{same, value, all_decimal}
 use Rattle.numbers.proofs.Numbered.{same_imsi, imsi_long}
 
 at_held : (ds : List ℕ) (b : Bool) (e : digital ds ≡ b) → option_map digits_in (held ds b e) ≡ cond b (Some ds) None
-at_held ds true e = ap Some (take_at ds _ (length ds) refl)
+at_held ds true e = refl
 at_held ds false e = refl
 
 holds : (ds : List ℕ) → option_map digits_in (digits_of ds) ≡ cond (digital ds) (Some ds) None
@@ -67,18 +66,8 @@ packed_unpacked (b ∷ c ∷ bs) =
     let n : b % 16 + 16 * (b / 16) ≡ b = omega arith in
     ap (λ l. (b % 16 + 16 * (b / 16)) ∷ l) (packed_unpacked (c ∷ bs)) ∙ ap (λ x. x ∷ c ∷ bs) n
 
-decimal_from : (ds : List ℕ) → ((k : ℕ) → get_or ds k 0 ≤ 9) → decimal ds ≡ true
-decimal_from [] h = refl
-decimal_from (d ∷ ds) h = and_from (leb d 9) (decimal ds) (le-leb d 9 (h 0)) (decimal_from ds (λ k. h (suc k)))
-
-decimal_digits : (d : Digits) → decimal (digits_in d) ≡ true
-decimal_digits d = decimal_from (digits_in d) (decimal_in d)
-
 digits_read : (d : Digits) → digits_of (unpacked (packed (digits_in d))) ≡ Some d
-digits_read d =
-    let n = long d in let s = d.some in let f = d.few in
-    ap digits_of (unpacked_packed (digits_in d) (decimal_digits d))
-    ∙ value (digits_in d) (digital_from (digits_in d) (decimal_digits d) (omega arith) (omega arith)) d (all d) (sym n)
+digits_read d = ap digits_of (unpacked_packed (digits_in d) (all_decimal (digits_in d) d.digital)) ∙ value (digits_in d) d.digital d refl
 
 -- which digits a value was named by
 named : (ds : List ℕ) (d : Digits) → digits_of ds ≡ Some d → digits_in d ≡ ds
@@ -91,13 +80,13 @@ named ds d e = from (digital ds) (ap (option_map digits_in) (sym e) ∙ holds ds
 digits_written : (bs : List ℕ) (d : Digits) → digits_of (unpacked bs) ≡ Some d → packed (digits_in d) ≡ bs
 digits_written bs d e = ap packed (named (unpacked bs) d e) ∙ packed_unpacked bs
 
-at_imsi : (d : Digits) (b : Bool) (e : leb 5 d.len ≡ b) (i : Imsi) → long_imsi d b e ≡ Some i → d ≡ i.digits
-at_imsi d true e i h = let p : record { digits = d; long = leb-true 5 d.len e } ≡ i = cc in ap (λ j. j.digits) p
+at_imsi : (d : Digits) (b : Bool) (e : leb 5 (length d.digits) ≡ b) (i : Imsi) → long_imsi d b e ≡ Some i → d ≡ i.digits
+at_imsi d true e i h = let p : record { digits = d; long = leb-true 5 (length d.digits) e } ≡ i = cc in ap (λ j. j.digits) p
 at_imsi d false e i h = let z : ◌≡◌ {A = ℕ} 0 1 = cc in absurd (omega arith)
 
 from_imsi : (o : Option Digits) (i : Imsi) → and_then o imsi_holding ≡ Some i → o ≡ Some i.digits
 from_imsi None i e = let z : ◌≡◌ {A = ℕ} 0 1 = cc in absurd (omega arith)
-from_imsi (Some d) i e = ap Some (at_imsi d (leb 5 d.len) refl i e)
+from_imsi (Some d) i e = ap Some (at_imsi d (leb 5 (length d.digits)) refl i e)
 
 imsi_written : (bs : List ℕ) (i : Imsi) → imsi_of bs ≡ Some i → packed (digits_in i.digits) ≡ bs
 unfolding imsi_of

@@ -1,5 +1,5 @@
 pub mod Packing
-pub mod Holding
 pub mod Digit
+pub mod Text
 pub mod Number
 pub mod Laws

@@ -1,5 +1,5 @@
 -- Digits packed two to an octet, low half first. After an odd count the last high half is F (15).
-use Rattle.std.specs.Prelude.{ℕ, ◌+◌, ◌*◌, ◌/◌, ◌%◌, Bool, true, cond, ◌&&◌, List, [], ◌∷◌, length, ◌==◌, nat_le, nat_lt, slice_index}
+use Rattle.std.specs.Prelude.{ℕ, ◌+◌, ◌*◌, ◌/◌, ◌%◌, Bool, true, cond, ◌&&◌, List, [], ◌∷◌, length, ◌==◌, nat_le}
 
 -- the halves of octets, low half first, without an F that fills the last octet
 abbrev pub unpacked : List ℕ → List ℕ
@@ -21,11 +21,3 @@ decimal (d ∷ ds) = nat_le d 9 && decimal ds
 -- 1 to 15 digits
 abbrev pub digital : List ℕ → Bool
 digital ds = decimal ds && (nat_le 1 (length ds) && nat_le (length ds) 15)
-
--- the half at an index; low halves have the even ones
-abbrev pub half_at : List ℕ → ℕ → ℕ
-half_at bs i = cond (i % 2 == 0) (slice_index bs (i / 2) % 16) (slice_index bs (i / 2) / 16)
-
--- the octet at an index; F fills the last one after an odd count
-abbrev pub octet_at : List ℕ → ℕ → ℕ
-octet_at ds i = slice_index ds (2 * i) + 16 * cond (nat_lt (2 * i + 1) (length ds)) (slice_index ds (2 * i + 1)) 15

@@ -3,11 +3,6 @@
 
 pub mod address;
 pub mod digits;
-pub mod equality;
 pub mod imsi;
 pub mod laws;
 pub mod node;
-pub mod packed;
-pub mod packing;
-pub mod reading;
-pub mod unpacking;

@@ -1,6 +1,7 @@
 -- Arguments, element by element. The first fault in element order decides.
-use Rattle.std.specs.Prelude.{ℕ, cond, List, Some, None, Ok, Err, Option, Result, ◌==◌}
+use Rattle.std.specs.Prelude.{◌≡◌, ℕ, cond, List, Some, None, Ok, Err, Option, Result, ◌==◌}
 use Rattle.std.specs.Borrow.{Bor}
+use Rattle.std.specs.Fn.{Once, FnOnceReturnsAt}
 use Rattle.std.specs.Option.{option_map}
 use Rattle.numbers.specs.declared.address.GsnAddress.{GsnAddress}
 use Rattle.numbers.specs.declared.address.Lmsi.{Lmsi}
@@ -9,6 +10,7 @@ use Rattle.numbers.specs.declared.imsi.Imsi.{Imsi}
 use Rattle.numbers.specs.declared.node.SgsnNumber.{SgsnNumber}
 use Rattle.numbers.specs.declared.node.VlrNumber.{VlrNumber}
 use Rattle.numbers.specs.Number.{imsi_of, number_of, lmsi_of, address_of}
+use Rattle.element.specs.declared.reader.Element.{Element}
 use Rattle.element.specs.Elements.{Elements, ended, broken, next, elements}
 use Rattle.operation.specs.declared.argument.Argument.{Argument}
 use Rattle.operation.specs.declared.argument.Argument.TheVariants as argument
@@ -54,33 +56,45 @@ abbrev pub valued_option : {A : Type 0} → (List ℕ → Option A) → Option (
 valued_option f None es = Ok (reading None es)
 valued_option f (Some c) es = bind (valued (f c) es) (λ a. Ok (reading (Some a.value) es))
 
+-- a function reads content as f says
+abbrev pub ReadsAs : {F A : Type 0} → Once F (Bor (List ℕ) × Unit {0}) (Option A) → F → (List ℕ → Option A) → Type 0
+ReadsAs {F} {A} g read f = (c : List ℕ) (v : Option A) → FnOnceReturnsAt g read c v → v ≡ f c
+
+-- the value of the next element, which has tag t, as f reads its content
+abbrev pub value_at : {A : Type 0} → (List ℕ → Option A) → ℕ → Elements → Reads A
+value_at f t es = bind (element_at t es) (λ a. valued (f a.value) a.rest)
+
+-- the value of the next element, if it has tag t
+abbrev pub optional_at : {A : Type 0} → (List ℕ → Option A) → ℕ → Elements → Reads (Option A)
+optional_at f t es = valued_option f (option_at t es).value (option_at t es).rest
+
 abbrev pub imsi_at : Elements → Reads Imsi
-imsi_at es = bind (element_at 0x04 es) (λ a. valued (imsi_of a.value) a.rest)
+imsi_at es = value_at imsi_of 0x04 es
 
 abbrev pub number_at : ℕ → Elements → Reads Digits
-number_at t es = bind (element_at t es) (λ a. valued (number_of a.value) a.rest)
+number_at t es = value_at number_of t es
 
 abbrev pub address_at : Elements → Reads GsnAddress
-address_at es = bind (element_at 0x04 es) (λ a. valued (address_of a.value) a.rest)
+address_at es = value_at address_of 0x04 es
 
 abbrev pub lmsi_at : Elements → Reads (Option Lmsi)
-lmsi_at es = valued_option lmsi_of (option_at 0x8A es).value (option_at 0x8A es).rest
+lmsi_at es = optional_at lmsi_of 0x8A es
 
 abbrev pub optional_number_at : ℕ → Elements → Reads (Option Digits)
-optional_number_at t es = valued_option number_of (option_at t es).value (option_at t es).rest
+optional_number_at t es = optional_at number_of t es
 
--- what the code read, with the elements that it left
-abbrev pub content_read : Result (Bor (List ℕ)) ArgumentFault → Elements → Reads (List ℕ)
-content_read (Ok s) es = Ok (reading s.now es)
+-- what the code read, with the elements that it left or those that are inside
+abbrev pub content_read : Result Element ArgumentFault → Elements → Reads (List ℕ)
+content_read (Ok e) es = Ok (reading e.content.now es)
 content_read (Err f) es = Err f
 
-abbrev pub option_read : Option (Bor (List ℕ)) → Elements → Read (Option (List ℕ))
-option_read None es = reading None es
-option_read (Some s) es = reading (Some s.now) es
+abbrev pub inside_read : Result Element ArgumentFault → Result Elements ArgumentFault
+inside_read (Ok e) = Ok (elements e.start e.content.now)
+inside_read (Err f) = Err f
 
-abbrev pub entered_read : Result (Unit {0}) ArgumentFault → Elements → Result Elements ArgumentFault
-entered_read (Ok u) es = Ok es
-entered_read (Err f) es = Err f
+abbrev pub option_read : Option Element → Elements → Read (Option (List ℕ))
+option_read None es = reading None es
+option_read (Some e) es = reading (Some e.content.now) es
 
 -- operation 2: 04 IMSI, 81 MSC number, 04 VLR number, then perhaps 8A LMSI
 abbrev pub update_with : Imsi → Digits → Digits → Option Lmsi → UpdateLocation

@@ -1,5 +1,6 @@
 -- The codes of operations, user errors, diagnostics and causes, and the tags of arguments (TS 29.002).
-use Rattle.std.specs.Prelude.{ℕ, cond, Some, None, Option, ◌==◌}
+use Rattle.std.specs.Prelude.{ℕ, cond, Some, None, Ok, Err, Option, Result, ◌==◌}
+use Rattle.octets.specs.declared.range.OutOfRange.{OutOfRange}
 use Rattle.operation.specs.declared.codes.Operation.{Operation}
 use Rattle.operation.specs.declared.codes.Operation.TheVariants.{UpdateLocation, CancelLocation, InsertSubscriberData, UpdateGprsLocation, PurgeMs}
 use Rattle.operation.specs.declared.codes.Request.{Request}
@@ -55,8 +56,8 @@ operation_of request.UpdateGprsLocation = UpdateGprsLocation
 operation_of request.PurgeMs = PurgeMs
 
 -- the request with an operation code
-abbrev pub request_at : ℕ → Option Request
+abbrev pub request_at : ℕ → Result Request OutOfRange
 request_at n =
-    cond (n == operation_number UpdateLocation) (Some request.UpdateLocation) (
-    cond (n == operation_number UpdateGprsLocation) (Some request.UpdateGprsLocation) (
-    cond (n == operation_number PurgeMs) (Some request.PurgeMs) None))
+    cond (n == operation_number UpdateLocation) (Ok request.UpdateLocation) (
+    cond (n == operation_number UpdateGprsLocation) (Ok request.UpdateGprsLocation) (
+    cond (n == operation_number PurgeMs) (Ok request.PurgeMs) (Err (record {}))))

@@ -4,7 +4,7 @@ use numbers::imsi::Imsi;
 use numbers::node::{MscNumber, SgsnNumber, VlrNumber};
 
 // An element is missing, or its value is wrong.
-#[derive(Clone, Copy)]
+#[derive(Clone, Copy, Debug, PartialEq, Eq)]
 pub enum ArgumentFault {
     Missing,
     Wrong,

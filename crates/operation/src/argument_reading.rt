@@ -1,90 +1,63 @@
 // Reading arguments.
 ghost use Rattle.std.specs.Prelude.{◌≡◌};
 ghost use Rattle.element.specs.Elements.{unread};
-ghost use Rattle.operation.specs.Argument.{argument_at, error_for, gprs_update_in, purge_in, sgsn_at, update_in, vlr_at};
-ghost use Rattle.operation.specs.Steps.{with_rest};
+ghost use Rattle.operation.specs.Argument.{argument_at, error_for, gprs_update_in, purge_in, update_in};
 
 use super::argument::{Argument, ArgumentFault, PurgeMs, UpdateGprsLocation, UpdateLocation};
-use super::codes::Request;
-use super::element_reading::{
-    enter, read_address, read_imsi, read_lmsi, read_number, read_optional_number,
-};
+use super::codes::{Operation, Request};
+use super::element_reading::{expect, read_optional, read_value};
 use super::user_error::UserError;
+use element::fault::Layer;
 use element::reader::Reader;
-use numbers::node::{MscNumber, SgsnNumber, VlrNumber};
+use numbers::address::{GsnAddress, Lmsi};
+use numbers::imsi::Imsi;
+use numbers::node::{MscNumber, SgsnNumber, VlrNumber, number_digits};
 
-impl ArgumentFault {
-    // The error that answers it.
-    pub fn error(self) -> UserError
-        ensures { result ≡ error_for self }
-    {
-        match self {
+// The error that answers a fault.
+impl From<ArgumentFault> for UserError {
+    ghost from_gives = { λ fault error. error ≡ error_for fault };
+
+    fn from(fault: ArgumentFault) -> UserError {
+        match fault {
             ArgumentFault::Missing => UserError::DataMissing,
             ArgumentFault::Wrong => UserError::UnexpectedDataValue,
         }
     }
 }
 
-fn read_update_location(r: &mut Reader) -> Result<UpdateLocation, ArgumentFault>
-    ensures { result ≡ update_in (unread r.old) }
+fn read_update_location(mut r: Reader) -> Result<UpdateLocation, ArgumentFault>
+    ensures { result ≡ update_in (unread r.entry) }
 {
-    let imsi = read_imsi(r)?;
-    let msc = MscNumber {
-        digits: read_number(r, 0x81)?,
-    };
-    let vlr = VlrNumber {
-        digits: read_number(r, 0x04)?,
-    };
-    let lmsi = read_lmsi(r)?;
     Ok(UpdateLocation {
-        imsi,
-        msc,
-        vlr,
-        lmsi,
+        imsi: read_value(&mut r, 0x04, Imsi::unpack)?,
+        msc: MscNumber {
+            digits: read_value(&mut r, 0x81, number_digits)?,
+        },
+        vlr: VlrNumber {
+            digits: read_value(&mut r, 0x04, number_digits)?,
+        },
+        lmsi: read_optional(&mut r, 0x8A, Lmsi::read)?,
     })
 }
 
-fn read_update_gprs_location(r: &mut Reader) -> Result<UpdateGprsLocation, ArgumentFault>
-    ensures { result ≡ gprs_update_in (unread r.old) }
+fn read_update_gprs_location(mut r: Reader) -> Result<UpdateGprsLocation, ArgumentFault>
+    ensures { result ≡ gprs_update_in (unread r.entry) }
 {
-    let imsi = read_imsi(r)?;
-    let sgsn = SgsnNumber {
-        digits: read_number(r, 0x04)?,
-    };
-    let address = read_address(r)?;
     Ok(UpdateGprsLocation {
-        imsi,
-        sgsn,
-        address,
+        imsi: read_value(&mut r, 0x04, Imsi::unpack)?,
+        sgsn: SgsnNumber {
+            digits: read_value(&mut r, 0x04, number_digits)?,
+        },
+        address: read_value(&mut r, 0x04, GsnAddress::read)?,
     })
 }
 
-// The VLR number, if one comes next.
-fn read_vlr(r: &mut Reader) -> Result<Option<VlrNumber>, ArgumentFault>
-    ensures { with_rest result (unread r.new) ≡ vlr_at (unread r.old) }
+fn read_purge_ms(mut r: Reader) -> Result<PurgeMs, ArgumentFault>
+    ensures { result ≡ purge_in (unread r.entry) }
 {
-    match read_optional_number(r, 0x80)? {
-        Some(digits) => Ok(Some(VlrNumber { digits })),
-        None => Ok(None),
-    }
-}
-
-// The SGSN number, if one comes next.
-fn read_sgsn(r: &mut Reader) -> Result<Option<SgsnNumber>, ArgumentFault>
-    ensures { with_rest result (unread r.new) ≡ sgsn_at (unread r.old) }
-{
-    match read_optional_number(r, 0x81)? {
-        Some(digits) => Ok(Some(SgsnNumber { digits })),
-        None => Ok(None),
-    }
-}
-
-fn read_purge_ms(r: &mut Reader) -> Result<PurgeMs, ArgumentFault>
-    ensures { result ≡ purge_in (unread r.old) }
-{
-    let imsi = read_imsi(r)?;
-    let vlr = read_vlr(r)?;
-    let sgsn = read_sgsn(r)?;
+    let imsi = read_value(&mut r, 0x04, Imsi::unpack)?;
+    let vlr = read_optional(&mut r, 0x80, number_digits)?.map(|digits| VlrNumber { digits });
+    let sgsn = read_optional(&mut r, 0x81, number_digits)?.map(|digits| SgsnNumber { digits });
     if vlr.is_none() && sgsn.is_none() {
         return Err(ArgumentFault::Missing);
     }
@@ -92,16 +65,14 @@ fn read_purge_ms(r: &mut Reader) -> Result<PurgeMs, ArgumentFault>
 }
 
 // The argument of a request. It is missing if its place has another operation's tag.
-pub fn read_argument(elements: Reader, request: Request) -> Result<Argument, ArgumentFault>
+pub fn read_argument(mut elements: Reader, request: Request) -> Result<Argument, ArgumentFault>
     ensures { result ≡ argument_at request (unread elements.entry) }
 {
-    let mut r = elements;
-    enter(&mut r, request.operation().argument_tag())?;
-    match request {
-        Request::UpdateLocation => Ok(Argument::UpdateLocation(read_update_location(&mut r)?)),
-        Request::UpdateGprsLocation => Ok(Argument::UpdateGprsLocation(read_update_gprs_location(
-            &mut r,
-        )?)),
-        Request::PurgeMs => Ok(Argument::PurgeMs(read_purge_ms(&mut r)?)),
-    }
+    let tag = Operation::from(request).argument_tag();
+    let r = expect(&mut elements, tag)?.inside(Layer::Body);
+    Ok(match request {
+        Request::UpdateLocation => Argument::UpdateLocation(read_update_location(r)?),
+        Request::UpdateGprsLocation => Argument::UpdateGprsLocation(read_update_gprs_location(r)?),
+        Request::PurgeMs => Argument::PurgeMs(read_purge_ms(r)?),
+    })
 }

@@ -1,22 +1,38 @@
 // User errors of TS 29.002, with their codes and parameters.
 ghost use Rattle.std.specs.Prelude.{◌≡◌};
-ghost use Rattle.operation.specs.Codes.{error_detail, error_number};
+ghost use Rattle.operation.specs.Codes.{cause_number, diagnostic_number, error_detail, error_number};
 
 // Why a subscriber is unknown.
-#[derive(Clone, Copy)]
+#[derive(Clone, Copy, Debug, PartialEq, Eq)]
 pub enum Diagnostic {
-    ImsiUnknown,
-    GprsSubscriptionUnknown,
+    ImsiUnknown = 0,
+    GprsSubscriptionUnknown = 1,
+}
+
+impl From<Diagnostic> for u8 {
+    ghost from_gives = { λ diagnostic number. number ≡ diagnostic_number diagnostic };
+
+    fn from(diagnostic: Diagnostic) -> u8 {
+        diagnostic as u8
+    }
 }
 
 // Why roaming is not allowed.
-#[derive(Clone, Copy)]
+#[derive(Clone, Copy, Debug, PartialEq, Eq)]
 pub enum Cause {
-    PlmnRoamingNotAllowed,
-    OperatorDeterminedBarring,
+    PlmnRoamingNotAllowed = 0,
+    OperatorDeterminedBarring = 3,
 }
 
-#[derive(Clone, Copy)]
+impl From<Cause> for u8 {
+    ghost from_gives = { λ cause number. number ≡ cause_number cause };
+
+    fn from(cause: Cause) -> u8 {
+        cause as u8
+    }
+}
+
+#[derive(Clone, Copy, Debug, PartialEq, Eq)]
 pub enum UserError {
     UnknownSubscriber(Diagnostic),
     RoamingNotAllowed(Cause),
@@ -26,7 +42,7 @@ pub enum UserError {
 }
 
 impl UserError {
-    // The error's code.
+    // The error's code: with the detail it is what a message holds of an error, so a property and no conversion.
     pub fn number(self) -> u8
         ensures { result ≡ error_number self }
     {
@@ -44,10 +60,8 @@ impl UserError {
         ensures { result ≡ error_detail self }
     {
         match self {
-            UserError::UnknownSubscriber(Diagnostic::ImsiUnknown) => Some(0),
-            UserError::UnknownSubscriber(Diagnostic::GprsSubscriptionUnknown) => Some(1),
-            UserError::RoamingNotAllowed(Cause::PlmnRoamingNotAllowed) => Some(0),
-            UserError::RoamingNotAllowed(Cause::OperatorDeterminedBarring) => Some(3),
+            UserError::UnknownSubscriber(diagnostic) => Some(u8::from(diagnostic)),
+            UserError::RoamingNotAllowed(cause) => Some(u8::from(cause)),
             UserError::SystemFailure | UserError::DataMissing | UserError::UnexpectedDataValue =>
                 None,
         }

@@ -1,10 +1,12 @@
 -- Roaming: which entry decides, and what it decides.
-use Rattle.std.specs.Prelude.{ℕ, ◌-◌, Bool, true, cond, ◌&&◌, List, [], ◌∷◌, ◌++◌, length, take, Some, None, Ok, Err, Option, Result, ◌==◌, nat_lt}
+use Rattle.std.specs.Prelude.{ℕ, ◌-◌, Bool, cond, List, [], ◌∷◌, ◌++◌, length, filter, fold, Some, None, Ok, Err, Option, Result, ◌==◌, nat_eq, nat_le, nat_lt}
 use Rattle.std.specs.Option.{option_map}
-use Rattle.std.specs.Str.{bytes_eq}
+use Rattle.std.specs.List.{starts_with}
+use Rattle.octets.specs.declared.range.OutOfRange.{OutOfRange}
 use Rattle.numbers.specs.declared.digits.Digits.{Digits}
 use Rattle.numbers.specs.Digit.{digits_in, digits_of}
 use Rattle.numbers.specs.Packing.{unpacked}
+use Rattle.operation.specs.declared.user_error.Cause.{Cause}
 use Rattle.operation.specs.declared.user_error.Cause.TheVariants.{PlmnRoamingNotAllowed, OperatorDeterminedBarring}
 use Rattle.subscription.specs.declared.profile.Bar.{Bar}
 use Rattle.subscription.specs.Profile.{bar_number}
@@ -13,8 +15,6 @@ use Rattle.roaming.specs.declared.entry.Class.TheVariants.{HomeNetwork, HomeCoun
 use Rattle.roaming.specs.declared.entry.Entry.{Entry}
 use Rattle.roaming.specs.declared.entry.RoamFault.{RoamFault}
 use Rattle.roaming.specs.declared.entry.RoamFault.TheVariants.{NoEntry, ListFull}
-use Rattle.roaming.specs.declared.entry.Roaming.{Roaming}
-use Rattle.roaming.specs.declared.entry.Roaming.TheVariants.{Allowed, NotAllowed}
 use Rattle.roaming.specs.declared.roaming_list.RoamingList.{RoamingList}
 
 -- the number of a class, and of a refusal
@@ -28,49 +28,45 @@ fault_number NoEntry = 1
 fault_number ListFull = 2
 
 -- the class with a number
-abbrev pub class_of : ℕ → Option Class
+abbrev pub class_of : ℕ → Result Class OutOfRange
 class_of n =
-    cond (n == class_number HomeNetwork) (Some HomeNetwork) (
-    cond (n == class_number HomeCountry) (Some HomeCountry) (
-    cond (n == class_number Abroad) (Some Abroad) None))
+    cond (n == class_number HomeNetwork) (Ok HomeNetwork) (
+    cond (n == class_number HomeCountry) (Ok HomeCountry) (
+    cond (n == class_number Abroad) (Ok Abroad) (Err (record {}))))
 
 -- a node of no known network is cause 0; bar b forbids the classes above 2 - b, with cause 3
-abbrev pub decided : Option Class → Bar → Roaming
-decided None b = NotAllowed PlmnRoamingNotAllowed
-decided (Some c) b = cond (nat_lt (2 - bar_number b) (class_number c)) (NotAllowed OperatorDeterminedBarring) Allowed
+abbrev pub decided : Option Class → Bar → Result (Unit {0}) Cause
+decided None b = Err PlmnRoamingNotAllowed
+decided (Some c) b = cond (nat_lt (2 - bar_number b) (class_number c)) (Err OperatorDeterminedBarring) (Ok tt)
 
 -- the entries of a list, in the order in which they were added
 abbrev pub entries_in : RoamingList → List Entry
-entries_in l = take l.len l.entries
+entries_in l = l.entries.items
 
 -- an entry's digits are the first digits of a node's number
 abbrev pub leads : List ℕ → List ℕ → Bool
-leads e n = bytes_eq e (take (length e) n)
+leads e n = starts_with nat_eq n e
 
 -- an entry decides in place of the best so far if it is longer; between equal ones the first added decides
-abbrev pub better : Entry → Option Entry → Bool
-better e None = true
-better e (Some b) = nat_lt b.digits.len e.digits.len
+abbrev pub longer_of : Option Entry → Entry → Option Entry
+longer_of None e = Some e
+longer_of (Some b) e = cond (nat_le (length (digits_in e.digits)) (length (digits_in b.digits))) (Some b) (Some e)
 
-abbrev pub better_of : List ℕ → Entry → Option Entry → Option Entry
-better_of n e b = cond (leads (digits_in e.digits) n && better e b) (Some e) b
-
--- the entry that decides for a node, given the best so far
-abbrev pub deciding : List ℕ → Option Entry → List Entry → Option Entry
-deciding n b [] = b
-deciding n b (e ∷ es) = deciding n (better_of n e b) es
+-- the entry that decides, of those that lead a node's number
+abbrev pub deciding : List ℕ → List Entry → Option Entry
+deciding n es = fold longer_of None (filter (λ e. leads (digits_in e.digits) n) es)
 
 -- the class of a node
-unfoldable pub class_for : List ℕ → List Entry → Option Class
-class_for n es = option_map (λ e. e.class) (deciding n None es)
+abbrev pub class_for : List ℕ → List Entry → Option Class
+class_for n es = option_map (λ e. e.class) (deciding n es)
 
 abbrev pub entry_with : Digits → Class → Entry
 entry_with d c = record { digits = d; class = c }
 
-abbrev pub entry_from : Option Digits → Option Class → Result Entry RoamFault
+abbrev pub entry_from : Option Digits → Result Class OutOfRange → Result Entry RoamFault
 entry_from None c = Err NoEntry
-entry_from (Some d) None = Err NoEntry
-entry_from (Some d) (Some c) = Ok (entry_with d c)
+entry_from (Some d) (Err e) = Err NoEntry
+entry_from (Some d) (Ok c) = Ok (entry_with d c)
 
 -- an entry from its packed digits and the number of its class
 abbrev pub entry_of : List ℕ → ℕ → Result Entry RoamFault

@@ -1,13 +1,12 @@
 // Entries of a roaming list.
 use numbers::digits::Digits;
-use operation::user_error::Cause;
 
 // Whose network a node is of.
-#[derive(Clone, Copy)]
+#[derive(Clone, Copy, Debug, PartialEq, Eq)]
 pub enum Class {
-    HomeNetwork,
-    HomeCountry,
-    Abroad,
+    HomeNetwork = 0,
+    HomeCountry = 1,
+    Abroad = 2,
 }
 
 // Leading digits of node numbers, and the class of the nodes that have them.
@@ -17,16 +16,19 @@ pub struct Entry {
     pub class: Class,
 }
 
+// What fills a list's unused places. By hand: digits have facts that a derive cannot show.
+impl Default for Entry {
+    fn default() -> Entry {
+        Entry {
+            digits: Digits::zero(),
+            class: Class::HomeNetwork,
+        }
+    }
+}
+
 // Why an entry is refused: it has not 1 to 15 digits or no known class, or the list is full.
-#[derive(Clone, Copy)]
+#[derive(Clone, Copy, Debug, PartialEq, Eq)]
 pub enum RoamFault {
     NoEntry,
     ListFull,
-}
-
-// Whether a subscriber may stand at a node.
-#[derive(Clone, Copy)]
-pub enum Roaming {
-    Allowed,
-    NotAllowed(Cause),
 }

@@ -1,12 +1,8 @@
-ghost use Rattle.std.specs.Prelude.{◌≡◌, ℕ, ◌≤◌, length};
-
 use super::entry::Entry;
+use arrayvec::ArrayVec;
 
 // Up to 32 entries, in the order in which they were added.
-#[derive(Clone, Copy)]
+#[derive(Drop)]
 pub struct RoamingList {
-    pub entries: [Entry; 32],
-    pub len: usize,
-    ghost whole: { length entries ≡ 32 },
-    ghost few: { len ≤ 32 },
+    pub entries: ArrayVec<Entry, 32>,
 }

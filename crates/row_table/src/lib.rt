@@ -1,5 +1,5 @@
 // A store that keeps its records in a lent slice of rows.
 #![tactic(auto)]
 
-pub mod buffer;
 pub mod table;
+mod writing;

@@ -1,11 +1,10 @@
 -- A download: a numbered list of inserts from a profile, for a side.
-use Rattle.std.specs.Prelude.{ℕ, zero, suc, ◌+◌, List, [], ◌∷◌, ◌++◌, length, Some, None, Option}
+use Rattle.std.specs.Prelude.{ℕ, zero, suc, ◌+◌, List, [], ◌∷◌, ◌++◌, length, None, Option, slice_get}
 use Rattle.numbers.specs.declared.imsi.Imsi.{Imsi}
 use Rattle.message.specs.declared.kinds.Service.{Service}
 use Rattle.message.specs.declared.kinds.Service.TheVariants.{Bearer, Teleservice}
 use Rattle.message.specs.Messages.{codes_insert}
 use Rattle.subscription.specs.declared.profile.Profile.{Profile}
-use Rattle.subscription.specs.Codes.{codes_in}
 use Rattle.side.specs.Meaning.{Meaning}
 
 -- the codes that are left whenever ten more have been sent, once k are passed over
@@ -27,15 +26,9 @@ abbrev pub later : List ℕ → List ℕ → List (List ℕ)
 later bs ts = numbered 2 Bearer (by_tens bs) ++ numbered (2 + length (by_tens bs)) Teleservice (by_tens ts)
 
 unfoldable pub download : {S : Type 0} → Meaning S → Option Imsi → Profile → List (List ℕ)
-download side i p = side.first i p ∷ later (side.bearers p) (codes_in p.teleservices)
-
--- what stands at an index
-abbrev pub at : {A : Type 0} → List A → ℕ → Option A
-at [] k = None
-at (x ∷ xs) zero = Some x
-at (x ∷ xs) (suc k) = at xs k
+download side i p = side.first i p ∷ later (side.bearers p) p.teleservices.codes
 
 -- insert n, counted from 1
 abbrev pub insert_at : List (List ℕ) → ℕ → Option (List ℕ)
 insert_at ds zero = None
-insert_at ds (suc k) = at ds k
+insert_at ds (suc k) = slice_get ds k

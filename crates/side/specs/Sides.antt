@@ -7,7 +7,6 @@ use Rattle.operation.specs.declared.user_error.Diagnostic.TheVariants.{ImsiUnkno
 use Rattle.message.specs.declared.kinds.AccessMode.{AccessMode}
 use Rattle.message.specs.declared.kinds.AccessMode.TheVariants.{Both, CircuitOnly, PacketOnly}
 use Rattle.message.specs.Messages.{circuit_insert, packet_insert}
-use Rattle.subscription.specs.Codes.{codes_in}
 use Rattle.subscription.specs.declared.stay.CircuitStay.{CircuitStay}
 use Rattle.subscription.specs.declared.stay.Location.{Location}
 use Rattle.subscription.specs.declared.stay.PacketStay.{PacketStay}
@@ -46,7 +45,7 @@ circuit_meaning = record {
   unserved = ImsiUnknown;
   operation = UpdateLocation;
   first = λ i p. circuit_insert i p.msisdn p.category;
-  bearers = λ p. codes_in p.bearers;
+  bearers = λ p. p.bearers.codes;
 }
 
 -- the node is the SGSN

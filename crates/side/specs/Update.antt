@@ -1,13 +1,13 @@
 -- What an update brings about, on either side.
-use Rattle.std.specs.Prelude.{Bool, true, false, List, Some, None, Option}
+use Rattle.std.specs.Prelude.{Bool, true, false, List, Some, None, Ok, Err, Option, Result}
 use Rattle.numbers.specs.Digit.{digits_in, same_digits}
+use Rattle.operation.specs.declared.user_error.Cause.{Cause}
 use Rattle.operation.specs.declared.user_error.UserError.{UserError}
 use Rattle.operation.specs.declared.user_error.UserError.TheVariants.{UnknownSubscriber, RoamingNotAllowed}
 use Rattle.subscription.specs.declared.stay.Location.{Location}
 use Rattle.subscription.specs.declared.stay.Record.{Record}
+use Rattle.subscription.specs.Stay.{standing}
 use Rattle.roaming.specs.declared.entry.Entry.{Entry}
-use Rattle.roaming.specs.declared.entry.Roaming.{Roaming}
-use Rattle.roaming.specs.declared.entry.Roaming.TheVariants.{Allowed, NotAllowed}
 use Rattle.roaming.specs.Roaming.{class_for, decided}
 use Rattle.side.specs.declared.outcome.Left.{Left}
 use Rattle.side.specs.declared.outcome.Update.{Update}
@@ -15,10 +15,6 @@ use Rattle.side.specs.Meaning.{Meaning}
 
 abbrev pub update_with : Record → Option Left → Option UserError → Update
 update_with r l e = record { «record» = r; left = l; error = e }
-
--- a stay that is not purged
-abbrev pub standing : {S : Type 0} → S → Location S
-standing s = record { present = true; purged = false; stay = s }
 
 module _ {S : Type 0} (side : Meaning S) where
   abbrev pub left_at : S → Left
@@ -38,12 +34,12 @@ module _ {S : Type 0} (side : Meaning S) where
   left_by l new = leaves l.present (same_node l.stay new) l.stay
 
   -- where roaming is not allowed the answer is error 8 and the side has no stay; else the stay is replaced, unpurged
-  abbrev pub roams : Roaming → Record → S → Option Left → Update
-  roams (NotAllowed cause) r new left = update_with (side.replaced r side.absent) left (Some (RoamingNotAllowed cause))
-  roams Allowed r new left = update_with (side.replaced r (standing new)) left None
+  abbrev pub roams : Result (Unit {0}) Cause → Record → S → Option Left → Update
+  roams (Err cause) r new left = update_with (side.replaced r side.absent) left (Some (RoamingNotAllowed cause))
+  roams (Ok allowed) r new left = update_with (side.replaced r (standing new)) left None
 
   -- whether a subscriber may stand at the node of a stay
-  abbrev pub roaming : Record → S → List Entry → Roaming
+  abbrev pub roaming : Record → S → List Entry → Result (Unit {0}) Cause
   roaming r new es = decided (class_for (digits_in (side.node new).digits) es) r.profile.bar
 
   -- an access mode without the side is error 1, and nothing is altered

@@ -2,8 +2,6 @@
 ghost use Rattle.std.specs.Prelude.{◌≡◌};
 ghost use Rattle.subscription.specs.declared.stay.Record.{Record as Subscriber};
 ghost use Rattle.subscription.specs.declared.stay.Location.{Location as Place};
-ghost use Rattle.message.specs.Writing.{written};
-ghost use Rattle.subscription.specs.Codes.{codes_in};
 ghost use Rattle.side.specs.Meaning.{Meaning};
 
 use message::kinds::AccessMode;
@@ -17,6 +15,7 @@ use subscription::code_list::CodeList;
 use subscription::profile::Profile;
 use subscription::stay::{Location, Record};
 
+// The two ends are what differs between the sides, a line or two to a member: their likeness is the trait's own form.
 pub trait Side {
     // a stay on this side
     type Stay: Copy;
@@ -56,13 +55,13 @@ pub trait Side {
     fn operation() -> Operation
         ensures { result ≡ meaning.operation };
 
-    // Insert 1 of a download.
+    // Insert 1 of a download, for a subscription: the IMSI goes into the message or not, so it is no part of the profile.
     fn first(imsi: Option<Imsi>, profile: &Profile) -> Message
-        ensures { written result ≡ meaning.first imsi profile.now };
+        ensures { result ≡ meaning.first imsi profile.now };
 
     // The bearer codes that a download sends.
     fn bearers(profile: &Profile) -> CodeList
-        ensures { codes_in result ≡ meaning.bearers profile.now };
+        ensures { result.codes ≡ meaning.bearers profile.now };
 
     // a side of a record that is replaced is what replaced it, and the rest of the record stays
     ghost located: { (r : Subscriber) (l : Place Self.Stay) → meaning.location (meaning.replaced r l) ≡ l };

@@ -1,13 +1,12 @@
 // The update rule, one text for both sides.
 ghost use Rattle.std.specs.Prelude.{◌≡◌};
 ghost use Rattle.roaming.specs.Roaming.{entries_in};
-ghost use Rattle.side.specs.Update.{left_by, standing, updated};
+ghost use Rattle.side.specs.Update.{left_by, updated};
 
 use super::outcome::{Left, Update};
 use super::side::Side;
 use operation::user_error::UserError;
 use roaming::decision::decide;
-use roaming::entry::Roaming;
 use roaming::roaming_list::RoamingList;
 use subscription::stay::{Location, Record};
 
@@ -41,27 +40,13 @@ pub fn update<D: Side>(subscriber: Record, new: D::Stay, roaming: &RoamingList) 
     }
     let left = left_by::<D>(D::location(&subscriber), &new);
     let class = roaming.class_of(&D::node(&new).digits);
-    match decide(class, subscriber.profile.bar) {
-        Roaming::NotAllowed(cause) => Update {
-            record: D::replace(subscriber, D::absent()),
-            left,
-            error: Some(UserError::RoamingNotAllowed(cause)),
-        },
-        Roaming::Allowed => Update {
-            record: D::replace(subscriber, standing_at::<D>(new)),
-            left,
-            error: None,
-        },
-    }
-}
-
-// A stay that is not purged.
-fn standing_at<D: Side>(stay: D::Stay) -> Location<D::Stay>
-    ensures { result ≡ standing stay }
-{
-    Location {
-        present: true,
-        purged: false,
-        stay,
+    let (location, error) = match decide(class, subscriber.profile.bar) {
+        Ok(()) => (Location::standing(new), None),
+        Err(cause) => (D::absent(), Some(UserError::RoamingNotAllowed(cause))),
+    };
+    Update {
+        record: D::replace(subscriber, location),
+        left,
+        error,
     }
 }

@@ -11,9 +11,6 @@ pub same_decides : (i j : Imsi) → Decides (same i j) (i ≡ j)
 unfolding same
 same_decides i j = laws.same_imsi i j
 
-pub same_self : (i : Imsi) → same i i ≡ true
-same_self i = (same_decides i i).1 refl
-
 pub same_flip : (i j : Imsi) → same i j ≡ same j i
 same_flip i j = same_from_decides {P = i ≡ j} (same i j) (same j i) (same_decides i j) (λ t. sym ((same_decides j i).0 t), λ e. (same_decides j i).1 (sym e))
 

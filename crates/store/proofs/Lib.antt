@@ -1,4 +1,2 @@
 pub mod Keys
-pub mod Tables
-pub mod RowLists
-pub mod Stores
+pub mod Writes

@@ -9,7 +9,7 @@ use numbers::imsi::Imsi;
 use subscription::stay::Record;
 
 // A put of a new IMSI found no free place.
-#[derive(Clone, Copy)]
+#[derive(Clone, Copy, Debug, PartialEq, Eq)]
 pub struct Full;
 
 pub trait Store {

@@ -1,8 +1,4 @@
 use subscription::stay::Record;
 
-// A row that holds a record, or none.
-#[derive(Clone, Copy)]
-pub struct Row {
-    pub used: bool,
-    pub held: Record,
-}
+// A row holds a record, or none.
+pub type Row = Option<Record>;

@@ -1,37 +1,31 @@
 // Searching rows.
-ghost use Rattle.std.specs.Prelude.{◌≡◌};
+ghost use Rattle.std.specs.Prelude.{◌≡◌, position, is_none};
+ghost use Rattle.store.specs.Records.{same};
 ghost use Rattle.store.specs.Rows.{first_unused, has, index_of};
 
 use super::row::Row;
 use numbers::imsi::Imsi;
 
-// Whether a row is used and holds this IMSI.
+// Whether a row holds a record of this IMSI.
 fn holds(row: &Row, imsi: &Imsi) -> bool
     ensures { result ≡ has imsi.now row.now }
 {
-    row.used && row.held.imsi == *imsi
+    match row {
+        Some(held) => held.imsi == *imsi,
+        None => false,
+    }
 }
 
-// The place of the used row with this IMSI, or the number of rows.
-pub fn place_of(rows: &[Row], imsi: &Imsi) -> usize
+// The place of the row with this IMSI, if there is one.
+pub fn place_of(rows: &[Row], imsi: &Imsi) -> Option<usize>
     ensures { result ≡ index_of rows.now imsi.now }
 {
-    for (i, row) in rows.iter().enumerate() {
-        if holds(row, imsi) {
-            return i;
-        }
-    }
-    rows.len()
+    rows.iter().position(|row| holds(row, imsi))
 }
 
-// The place of the first unused row, or the number of rows.
-pub fn first_unused(rows: &[Row]) -> usize
+// The place of the first unused row, if there is one. Two searches by the library's method, each with its test.
+pub fn first_unused(rows: &[Row]) -> Option<usize>
     ensures { result ≡ first_unused rows.now }
 {
-    for (i, row) in rows.iter().enumerate() {
-        if !row.used {
-            return i;
-        }
-    }
-    rows.len()
+    rows.iter().position(|row| row.is_none())
 }

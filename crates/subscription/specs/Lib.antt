@@ -1,5 +1,4 @@
 pub mod Once
-pub mod Holding
 pub mod Codes
 pub mod Profile
 pub mod Stay

@@ -1,9 +1,9 @@
 -- Whether codes stand in a list, and none twice.
-use Rattle.std.specs.Prelude.{ℕ, Bool, true, false, not, ◌&&◌, ◌||◌, List, [], ◌∷◌, length, ◌==◌, nat_le}
+use Rattle.std.specs.Prelude.{ℕ, Bool, true, not, ◌&&◌, List, [], ◌∷◌, length, ◌==◌, nat_le}
+use Rattle.std.specs.List.{list_any}
 
 abbrev pub stands_in : ℕ → List ℕ → Bool
-stands_in c [] = false
-stands_in c (d ∷ cs) = d == c || stands_in c cs
+stands_in c cs = list_any (λ d. d == c) cs
 
 -- no code stands twice
 abbrev pub once : List ℕ → Bool

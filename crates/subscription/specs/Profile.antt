@@ -1,11 +1,12 @@
 -- Profiles, from octets as a caller hands them over.
-use Rattle.std.specs.Prelude.{ℕ, cond, List, Some, None, Option, ◌==◌}
+use Rattle.std.specs.Prelude.{ℕ, cond, List, Ok, Err, Result, ◌==◌}
+use Rattle.std.specs.Option.{ok_or, option_map}
+use Rattle.octets.specs.declared.range.OutOfRange.{OutOfRange as NoCase}
 use Rattle.numbers.specs.declared.digits.Digits.{Digits}
 use Rattle.numbers.specs.declared.node.Msisdn.{Msisdn}
-use Rattle.numbers.specs.Number.{and_then, number_of}
+use Rattle.numbers.specs.Number.{number_of}
 use Rattle.message.specs.declared.kinds.AccessMode.{AccessMode}
-use Rattle.message.specs.declared.kinds.AccessMode.TheVariants.{Both, CircuitOnly, PacketOnly}
-use Rattle.message.specs.Kinds.{access_number}
+use Rattle.message.specs.Kinds.{mode_of}
 use Rattle.subscription.specs.declared.code_list.CodeList.{CodeList}
 use Rattle.subscription.specs.declared.profile.Bar.{Bar}
 use Rattle.subscription.specs.declared.profile.Bar.TheVariants.{NoBar, OutsideHomeCountry, OutsideHomeNetwork}
@@ -24,24 +25,18 @@ bar_number NoBar = 0
 bar_number OutsideHomeCountry = 1
 bar_number OutsideHomeNetwork = 2
 
--- the bar, and the access mode, with a number
-abbrev pub bar_of : ℕ → Option Bar
+-- the bar with a number
+abbrev pub bar_of : ℕ → Result Bar NoCase
 bar_of n =
-    cond (n == bar_number NoBar) (Some NoBar) (
-    cond (n == bar_number OutsideHomeCountry) (Some OutsideHomeCountry) (
-    cond (n == bar_number OutsideHomeNetwork) (Some OutsideHomeNetwork) None))
-
-abbrev pub mode_of : ℕ → Option AccessMode
-mode_of n =
-    cond (n == access_number Both) (Some Both) (
-    cond (n == access_number CircuitOnly) (Some CircuitOnly) (
-    cond (n == access_number PacketOnly) (Some PacketOnly) None))
+    cond (n == bar_number NoBar) (Ok NoBar) (
+    cond (n == bar_number OutsideHomeCountry) (Ok OutsideHomeCountry) (
+    cond (n == bar_number OutsideHomeNetwork) (Ok OutsideHomeNetwork) (Err (record {}))))
 
 abbrev pub msisdn_with : Digits → Msisdn
 msisdn_with d = record { digits = d }
 
-abbrev pub msisdn_of : List ℕ → Option Msisdn
-msisdn_of bs = and_then (number_of bs) (λ d. Some (msisdn_with d))
+abbrev pub msisdn_of : List ℕ → Result Msisdn SubscriptionFault
+msisdn_of bs = ok_or (option_map msisdn_with (number_of bs)) OutOfRange
 
 -- the octets of a profile as they are handed over
 pub record Raw : Type 0 where
@@ -65,12 +60,17 @@ raw_of p = record {
 abbrev pub profile_with : Msisdn → ℕ → CodeList → CodeList → AccessMode → Bar → Profile
 profile_with m c b t a r = record { msisdn = m; category = c; bearers = b; teleservices = t; mode = a; bar = r }
 
--- the profile in them; none where a field is out of range or a code stands twice
-unfoldable pub profile_of : Raw → Option Profile
+-- what is made of a field that was read; whatever refused the field, the subscription is refused
+abbrev pub and_then : {A B E : Type 0} → Result A E → (A → Result B SubscriptionFault) → Result B SubscriptionFault
+and_then (Ok a) f = f a
+and_then (Err e) f = Err OutOfRange
+
+-- the profile in them; refused where a field is out of range or a code stands twice
+abbrev pub profile_of : Raw → Result Profile SubscriptionFault
 profile_of p =
     and_then (msisdn_of p.msisdn) (λ m.
     and_then (codes_of p.bearers) (λ b.
     and_then (codes_of p.teleservices) (λ t.
     and_then (mode_of p.mode) (λ a.
     and_then (bar_of p.bar) (λ r.
-    Some (profile_with m p.category b t a r))))))
+    Ok (profile_with m p.category b t a r))))))

@@ -1,13 +1,12 @@
-ghost use Rattle.std.specs.Prelude.{◌≡◌, ℕ, ◌-◌, ◌≤◌, true, length, take, drop, replicate};
+ghost use Rattle.std.specs.Prelude.{◌≡◌, ◌≤◌, true, length};
 ghost use Rattle.subscription.specs.Once.{once};
 
-// Up to 20 service codes, none twice. Entries past them are 0, so that the same codes are the same value.
+use octets::list::Octets;
+
+// Up to 20 service codes, none twice.
 #[derive(Clone, Copy)]
 pub struct CodeList {
-    pub codes: [u8; 20],
-    pub len: usize,
-    ghost whole: { length codes ≡ 20 },
-    ghost few: { len ≤ 20 },
-    ghost apart: { once (take len codes) ≡ true },
-    ghost padded: { drop len codes ≡ replicate (20 - len) 0 },
+    pub codes: Octets<20>,
+    ghost few: { length codes ≤ 20 },
+    ghost apart: { once codes ≡ true },
 }

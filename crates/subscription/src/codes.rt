@@ -1,62 +1,53 @@
 // Lists of service codes.
-ghost use Rattle.std.specs.Prelude.{◌≡◌, [], length};
-ghost use Rattle.subscription.specs.Codes.{codes_in, codes_of};
-ghost use Rattle.subscription.specs.Once.{once, stands_in};
+ghost use Rattle.std.specs.Prelude.{◌≡◌, []};
+ghost use Rattle.subscription.specs.Codes.{codes_of};
+ghost use Rattle.subscription.specs.Once.{listable, once};
 
 use super::code_list::CodeList;
-
-fn stands_in(codes: &[u8], code: u8) -> bool
-    ensures { result ≡ stands_in code codes.now }
-{
-    for c in codes {
-        if *c == code {
-            return true;
-        }
-    }
-    false
-}
+use super::profile::SubscriptionFault;
+use octets::list::Octets;
 
 // Whether no code stands twice.
 fn all_once(codes: &[u8]) -> bool
     ensures { result ≡ once codes.now }
 {
-    for (i, code) in codes.iter().enumerate() {
-        if stands_in(&codes[i + 1..], *code) {
-            return false;
-        }
+    match codes {
+        [] => true,
+        [first, rest @ ..] => !rest.contains(first) && all_once(rest),
     }
-    true
+}
+
+// Whether codes are up to 20, and none stands twice.
+fn are_listable(codes: &[u8]) -> bool
+    ensures { result ≡ listable codes.now }
+{
+    codes.len() <= 20 && all_once(codes)
 }
 
 impl CodeList {
     pub fn empty() -> CodeList
-        ensures { codes_in result ≡ [] }
+        ensures { result.codes ≡ [] }
     {
         CodeList {
-            codes: [0; 20],
-            len: 0,
+            codes: Octets::new(),
         }
     }
 
-    // The list of these codes; none where there are more than 20, or one stands twice.
-    pub fn read(octets: &[u8]) -> Option<CodeList>
+    // The list of these codes; refused where there are more than 20, or one stands twice. No TryFrom: octets are not codes until a caller says so.
+    pub fn read(octets: &[u8]) -> Result<CodeList, SubscriptionFault>
         ensures { result ≡ codes_of octets.now }
     {
-        let len = octets.len();
-        if len > 20 {
-            return None;
+        if !are_listable(octets) {
+            return Err(SubscriptionFault::OutOfRange);
         }
-        if !all_once(octets) {
-            return None;
-        }
-        let mut codes = [0; 20];
-        codes[0..len].copy_from_slice(octets);
-        Some(CodeList { codes, len })
+        let mut codes = Octets::new();
+        codes.extend_from_slice(octets);
+        Ok(CodeList { codes })
     }
 
     pub fn as_slice(&self) -> &[u8]
-        ensures { result.now ≡ codes_in self.now }
+        ensures { result.now ≡ self.now.codes }
     {
-        &self.codes[0..self.len]
+        self.codes.as_slice()
     }
 }

@@ -4,11 +4,11 @@ use message::kinds::AccessMode;
 use numbers::node::Msisdn;
 
 // Where roaming is barred.
-#[derive(Clone, Copy)]
+#[derive(Clone, Copy, Debug, PartialEq, Eq)]
 pub enum Bar {
-    NoBar,
-    OutsideHomeCountry,
-    OutsideHomeNetwork,
+    NoBar = 0,
+    OutsideHomeCountry = 1,
+    OutsideHomeNetwork = 2,
 }
 
 #[derive(Clone, Copy)]
@@ -33,7 +33,7 @@ pub struct RawProfile<'a> {
 }
 
 // Why a subscription is refused: a value is out of range, or a code stands twice.
-#[derive(Clone, Copy)]
+#[derive(Clone, Copy, Debug, PartialEq, Eq)]
 pub enum SubscriptionFault {
     OutOfRange,
 }

@@ -1,15 +1,16 @@
-// Profiles and IMSIs from octets that any caller may hand over.
+// Profiles from octets that any caller may hand over.
 ghost use Rattle.std.specs.Prelude.{◌≡◌};
-ghost use Rattle.subscription.specs.Profile.{bar_number, bar_of, fault_number, mode_of, msisdn_of, profile_of, raw_of};
+ghost use Rattle.subscription.specs.Profile.{bar_number, bar_of, fault_number, profile_of, raw_of};
+ghost use Rattle.subscription.specs.declared.profile.SubscriptionFault.TheVariants as fault;
 
 use super::code_list::CodeList;
 use super::profile::{Bar, Profile, RawProfile, SubscriptionFault};
 use message::kinds::AccessMode;
-use numbers::node::Msisdn;
-use numbers::reading::number_digits;
+use numbers::node::{Msisdn, number_digits};
+use octets::range::OutOfRange;
 
 impl SubscriptionFault {
-    // The number of the refusal.
+    // The number of the refusal: a property of the fault, and no conversion.
     pub fn number(self) -> u8
         ensures { result ≡ fault_number self }
     {
@@ -19,64 +20,52 @@ impl SubscriptionFault {
     }
 }
 
-impl Bar {
-    pub fn number(self) -> u8
-        ensures { result ≡ bar_number self }
-    {
-        match self {
-            Bar::NoBar => 0,
-            Bar::OutsideHomeCountry => 1,
-            Bar::OutsideHomeNetwork => 2,
-        }
-    }
+impl From<OutOfRange> for SubscriptionFault {
+    ghost from_gives = { λ _ refusal. refusal ≡ fault.OutOfRange };
 
-    pub fn from_number(number: u8) -> Option<Bar>
-        ensures { result ≡ bar_of number }
-    {
+    fn from(_fault: OutOfRange) -> SubscriptionFault {
+        SubscriptionFault::OutOfRange
+    }
+}
+
+impl From<Bar> for u8 {
+    ghost from_gives = { λ bar n. n ≡ bar_number bar };
+
+    fn from(bar: Bar) -> u8 {
+        bar as u8
+    }
+}
+
+// Written out, as those of other enums are: each names its own cases.
+impl TryFrom<u8> for Bar {
+    type Error = OutOfRange;
+
+    ghost try_from_gives = { λ n bar. bar ≡ bar_of n };
+
+    fn try_from(number: u8) -> Result<Bar, OutOfRange> {
         match number {
-            0 => Some(Bar::NoBar),
-            1 => Some(Bar::OutsideHomeCountry),
-            2 => Some(Bar::OutsideHomeNetwork),
-            _ => None,
+            0 => Ok(Bar::NoBar),
+            1 => Ok(Bar::OutsideHomeCountry),
+            2 => Ok(Bar::OutsideHomeNetwork),
+            _ => Err(OutOfRange),
         }
     }
-}
-
-fn mode_from_number(number: u8) -> Option<AccessMode>
-    ensures { result ≡ mode_of number }
-{
-    match number {
-        0 => Some(AccessMode::Both),
-        1 => Some(AccessMode::CircuitOnly),
-        2 => Some(AccessMode::PacketOnly),
-        _ => None,
-    }
-}
-
-fn read_msisdn(octets: &[u8]) -> Option<Msisdn>
-    ensures { result ≡ msisdn_of octets.now }
-{
-    let digits = number_digits(octets)?;
-    Some(Msisdn { digits })
 }
 
 impl Profile {
-    // The profile in these octets; none where a field is out of range or a code stands twice.
-    pub fn read(raw: RawProfile) -> Option<Profile>
+    // The profile in these octets; refused where a field is out of range or a code stands twice.
+    pub fn read(raw: RawProfile) -> Result<Profile, SubscriptionFault>
         ensures { result ≡ profile_of (raw_of raw.entry) }
     {
-        let msisdn = read_msisdn(raw.msisdn)?;
-        let bearers = CodeList::read(raw.bearers)?;
-        let teleservices = CodeList::read(raw.teleservices)?;
-        let mode = mode_from_number(raw.mode)?;
-        let bar = Bar::from_number(raw.bar)?;
-        Some(Profile {
-            msisdn,
+        Ok(Profile {
+            msisdn: Msisdn {
+                digits: number_digits(raw.msisdn).ok_or(SubscriptionFault::OutOfRange)?,
+            },
             category: raw.category,
-            bearers,
-            teleservices,
-            mode,
-            bar,
+            bearers: CodeList::read(raw.bearers)?,
+            teleservices: CodeList::read(raw.teleservices)?,
+            mode: AccessMode::try_from(raw.mode)?,
+            bar: Bar::try_from(raw.bar)?,
         })
     }
 }

@@ -17,7 +17,8 @@ pub struct PacketStay {
     pub address: GsnAddress,
 }
 
-// A side of a record: whether there is a stay, whether it is purged, and the stay. Where there is none the rest has one fixed form.
+// A side of a record: whether there is a stay, whether it is purged, and the stay. Presence is a flag beside the stay and no Option: a side has one plain
+// form whether the subscriber stands or not. Where there is no stay the rest has one fixed form.
 #[derive(Clone, Copy)]
 pub struct Location<S> {
     pub present: bool,

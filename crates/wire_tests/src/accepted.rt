@@ -1,5 +1,5 @@
 // What is read of invokes that are accepted.
-use super::invoking::*;
+use component::invoke::{Invoke, read_invoke};
 use numbers::address::GsnAddress;
 use operation::argument::{Argument, PurgeMs, UpdateLocation};
 use std::process::Abort;
@@ -34,10 +34,16 @@ fn check_update(rt: &impl Abort, update: UpdateLocation) -> Result<(), Fail> {
 #[test]
 fn long_lengths(rt: HostRuntime) -> Result<(), Fail> {
     for octets in &LONG_LENGTHS {
-        let invoke = accepted(octets)?;
-        assert_eq!(rt; invoke.id, 5);
-        match argument_of(invoke)? {
-            Argument::UpdateLocation(update) => check_update(&rt, update)?,
+        match read_invoke(octets) {
+            Ok(
+                Invoke {
+                    id,
+                    argument: Ok(Argument::UpdateLocation(update)),
+                },
+            ) => {
+                assert_eq!(rt; id, 5);
+                check_update(&rt, update)?;
+            }
             _ => return Err(Fail::new("no update location")),
         }
     }
@@ -46,35 +52,31 @@ fn long_lengths(rt: HostRuntime) -> Result<(), Fail> {
 
 // A purge, and the digits of the numbers that count; none where there is no number.
 struct Purge {
-    vlr: &'static [u8],
-    sgsn: &'static [u8],
+    vlr: Option<&'static [u8]>,
+    sgsn: Option<&'static [u8]>,
     octets: &'static [u8],
 }
 
 #[rattlefmt::skip]
 const PURGES: [Purge; 8] = [
-    Purge { vlr: &[1, 2], sgsn: &[], octets: &[0xA1, 17, 0x02, 1, 5, 0x02, 1, 67, 0xA3, 9, 0x04, 3, 0x00, 0x01, 0xF1, 0x80, 2, 0x91, 0x21] },
-    Purge { vlr: &[], sgsn: &[3, 4], octets: &[0xA1, 17, 0x02, 1, 5, 0x02, 1, 67, 0xA3, 9, 0x04, 3, 0x00, 0x01, 0xF1, 0x81, 2, 0x91, 0x43] },
-    Purge { vlr: &[1, 2], sgsn: &[3, 4], octets: &[0xA1, 21, 0x02, 1, 5, 0x02, 1, 67, 0xA3, 13, 0x04, 3, 0x00, 0x01, 0xF1, 0x80, 2, 0x91, 0x21, 0x81, 2, 0x91, 0x43] },
+    Purge { vlr: Some(&[1, 2]), sgsn: None, octets: &[0xA1, 17, 0x02, 1, 5, 0x02, 1, 67, 0xA3, 9, 0x04, 3, 0x00, 0x01, 0xF1, 0x80, 2, 0x91, 0x21] },
+    Purge { vlr: None, sgsn: Some(&[3, 4]), octets: &[0xA1, 17, 0x02, 1, 5, 0x02, 1, 67, 0xA3, 9, 0x04, 3, 0x00, 0x01, 0xF1, 0x81, 2, 0x91, 0x43] },
+    Purge { vlr: Some(&[1, 2]), sgsn: Some(&[3, 4]), octets: &[0xA1, 21, 0x02, 1, 5, 0x02, 1, 67, 0xA3, 13, 0x04, 3, 0x00, 0x01, 0xF1, 0x80, 2, 0x91, 0x21, 0x81, 2, 0x91, 0x43] },
     // After the SGSN number nothing is read, right or wrong.
-    Purge { vlr: &[], sgsn: &[3, 4], octets: &[0xA1, 21, 0x02, 1, 5, 0x02, 1, 67, 0xA3, 13, 0x04, 3, 0x00, 0x01, 0xF1, 0x81, 2, 0x91, 0x43, 0x80, 2, 0x91, 0x21] },
-    Purge { vlr: &[], sgsn: &[3, 4], octets: &[0xA1, 20, 0x02, 1, 5, 0x02, 1, 67, 0xA3, 12, 0x04, 3, 0x00, 0x01, 0xF1, 0x81, 2, 0x91, 0x43, 0x81, 1, 0x91] },
+    Purge { vlr: None, sgsn: Some(&[3, 4]), octets: &[0xA1, 21, 0x02, 1, 5, 0x02, 1, 67, 0xA3, 13, 0x04, 3, 0x00, 0x01, 0xF1, 0x81, 2, 0x91, 0x43, 0x80, 2, 0x91, 0x21] },
+    Purge { vlr: None, sgsn: Some(&[3, 4]), octets: &[0xA1, 20, 0x02, 1, 5, 0x02, 1, 67, 0xA3, 12, 0x04, 3, 0x00, 0x01, 0xF1, 0x81, 2, 0x91, 0x43, 0x81, 1, 0x91] },
     // After the VLR number only an SGSN number is read, and only right after it.
-    Purge { vlr: &[1, 2], sgsn: &[], octets: &[0xA1, 21, 0x02, 1, 5, 0x02, 1, 67, 0xA3, 13, 0x04, 3, 0x00, 0x01, 0xF1, 0x80, 2, 0x91, 0x21, 0x80, 2, 0x91, 0x43] },
-    Purge { vlr: &[1, 2], sgsn: &[], octets: &[0xA1, 23, 0x02, 1, 5, 0x02, 1, 67, 0xA3, 15, 0x04, 3, 0x00, 0x01, 0xF1, 0x80, 2, 0x91, 0x21, 0x84, 0, 0x81, 2, 0x91, 0x43] },
-    Purge { vlr: &[0], sgsn: &[0], octets: &[0xA1, 21, 0x02, 1, 5, 0x02, 1, 67, 0xA3, 13, 0x04, 3, 0x00, 0x01, 0xF1, 0x80, 2, 0x91, 0xF0, 0x81, 2, 0x91, 0xF0] },
+    Purge { vlr: Some(&[1, 2]), sgsn: None, octets: &[0xA1, 21, 0x02, 1, 5, 0x02, 1, 67, 0xA3, 13, 0x04, 3, 0x00, 0x01, 0xF1, 0x80, 2, 0x91, 0x21, 0x80, 2, 0x91, 0x43] },
+    Purge { vlr: Some(&[1, 2]), sgsn: None, octets: &[0xA1, 23, 0x02, 1, 5, 0x02, 1, 67, 0xA3, 15, 0x04, 3, 0x00, 0x01, 0xF1, 0x80, 2, 0x91, 0x21, 0x84, 0, 0x81, 2, 0x91, 0x43] },
+    Purge { vlr: Some(&[0]), sgsn: Some(&[0]), octets: &[0xA1, 21, 0x02, 1, 5, 0x02, 1, 67, 0xA3, 13, 0x04, 3, 0x00, 0x01, 0xF1, 0x80, 2, 0x91, 0xF0, 0x81, 2, 0x91, 0xF0] },
 ];
 
 impl Purge {
     fn check(&self, rt: &impl Abort, purge: PurgeMs) -> Result<(), Fail> {
-        match purge.vlr {
-            Some(vlr) => assert_eq!(rt; vlr.digits.as_slice(), self.vlr),
-            None => assert!(rt; self.vlr.is_empty()),
-        }
-        match purge.sgsn {
-            Some(sgsn) => assert_eq!(rt; sgsn.digits.as_slice(), self.sgsn),
-            None => assert!(rt; self.sgsn.is_empty()),
-        }
+        let vlr = purge.vlr.as_ref().map(|vlr| vlr.digits.as_slice());
+        let sgsn = purge.sgsn.as_ref().map(|sgsn| sgsn.digits.as_slice());
+        assert_eq!(rt; vlr, self.vlr);
+        assert_eq!(rt; sgsn, self.sgsn);
         Ok(())
     }
 }
@@ -82,8 +84,13 @@ impl Purge {
 #[test]
 fn purges(rt: HostRuntime) -> Result<(), Fail> {
     for row in &PURGES {
-        match argument_of(accepted(row.octets)?)? {
-            Argument::PurgeMs(purge) => row.check(&rt, purge)?,
+        match read_invoke(row.octets) {
+            Ok(
+                Invoke {
+                    argument: Ok(Argument::PurgeMs(purge)),
+                    ..
+                },
+            ) => row.check(&rt, purge)?,
             _ => return Err(Fail::new("no purge")),
         }
     }
@@ -92,32 +99,30 @@ fn purges(rt: HostRuntime) -> Result<(), Fail> {
 
 // An update, and the LMSI or the GSN address that is read of it; none where there is no LMSI.
 struct Held {
-    value: &'static [u8],
+    value: Option<&'static [u8]>,
     octets: &'static [u8],
 }
 
 #[rattlefmt::skip]
 const HELD: [Held; 5] = [
-    Held { value: &[], octets: &[0xA1, 21, 0x02, 1, 5, 0x02, 1, 2, 0x30, 13, 0x04, 3, 0x00, 0x01, 0xF1, 0x81, 2, 0x91, 0x21, 0x04, 2, 0x91, 0x43] },
-    Held { value: &[0xDE, 0xAD, 0xBE, 0xEF], octets: &[0xA1, 27, 0x02, 1, 5, 0x02, 1, 2, 0x30, 19, 0x04, 3, 0x00, 0x01, 0xF1, 0x81, 2, 0x91, 0x21, 0x04, 2, 0x91, 0x43, 0x8A, 4, 0xDE, 0xAD, 0xBE, 0xEF] },
-    Held { value: &[], octets: &[0xA1, 29, 0x02, 1, 5, 0x02, 1, 2, 0x30, 21, 0x04, 3, 0x00, 0x01, 0xF1, 0x81, 2, 0x91, 0x21, 0x04, 2, 0x91, 0x43, 0x84, 0, 0x8A, 4, 0xDE, 0xAD, 0xBE, 0xEF] },
-    Held { value: &[10, 0, 0, 1], octets: &[0xA1, 24, 0x02, 1, 5, 0x02, 1, 23, 0x30, 16, 0x04, 3, 0x00, 0x01, 0xF1, 0x04, 2, 0x91, 0x21, 0x04, 5, 0x04, 10, 0, 0, 1] },
-    Held { value: &[1, 2, 3, 4, 5, 6, 7, 8, 9, 10, 11, 12, 13, 14, 15, 16], octets: &[0xA1, 36, 0x02, 1, 5, 0x02, 1, 23, 0x30, 28, 0x04, 3, 0x00, 0x01, 0xF1, 0x04, 2, 0x91, 0x21, 0x04, 17, 0x50, 1, 2, 3, 4, 5, 6, 7, 8, 9, 10, 11, 12, 13, 14, 15, 16] },
+    Held { value: None, octets: &[0xA1, 21, 0x02, 1, 5, 0x02, 1, 2, 0x30, 13, 0x04, 3, 0x00, 0x01, 0xF1, 0x81, 2, 0x91, 0x21, 0x04, 2, 0x91, 0x43] },
+    Held { value: Some(&[0xDE, 0xAD, 0xBE, 0xEF]), octets: &[0xA1, 27, 0x02, 1, 5, 0x02, 1, 2, 0x30, 19, 0x04, 3, 0x00, 0x01, 0xF1, 0x81, 2, 0x91, 0x21, 0x04, 2, 0x91, 0x43, 0x8A, 4, 0xDE, 0xAD, 0xBE, 0xEF] },
+    Held { value: None, octets: &[0xA1, 29, 0x02, 1, 5, 0x02, 1, 2, 0x30, 21, 0x04, 3, 0x00, 0x01, 0xF1, 0x81, 2, 0x91, 0x21, 0x04, 2, 0x91, 0x43, 0x84, 0, 0x8A, 4, 0xDE, 0xAD, 0xBE, 0xEF] },
+    Held { value: Some(&[10, 0, 0, 1]), octets: &[0xA1, 24, 0x02, 1, 5, 0x02, 1, 23, 0x30, 16, 0x04, 3, 0x00, 0x01, 0xF1, 0x04, 2, 0x91, 0x21, 0x04, 5, 0x04, 10, 0, 0, 1] },
+    Held { value: Some(&[1, 2, 3, 4, 5, 6, 7, 8, 9, 10, 11, 12, 13, 14, 15, 16]), octets: &[0xA1, 36, 0x02, 1, 5, 0x02, 1, 23, 0x30, 28, 0x04, 3, 0x00, 0x01, 0xF1, 0x04, 2, 0x91, 0x21, 0x04, 17, 0x50, 1, 2, 3, 4, 5, 6, 7, 8, 9, 10, 11, 12, 13, 14, 15, 16] },
 ];
 
 impl Held {
     fn check(&self, rt: &impl Abort, argument: Argument) -> Result<(), Fail> {
-        match argument {
-            Argument::UpdateLocation(update) => match update.lmsi {
-                Some(lmsi) => assert_eq!(rt; &lmsi.octets[..], self.value),
-                None => assert!(rt; self.value.is_empty()),
-            },
-            Argument::UpdateGprsLocation(update) => match update.address {
-                GsnAddress::Ipv4(address) => assert_eq!(rt; &address[..], self.value),
-                GsnAddress::Ipv6(address) => assert_eq!(rt; &address[..], self.value),
+        let value = match &argument {
+            Argument::UpdateLocation(update) => update.lmsi.as_ref().map(|lmsi| &lmsi.octets[..]),
+            Argument::UpdateGprsLocation(update) => match &update.address {
+                GsnAddress::Ipv4(address) => Some(&address[..]),
+                GsnAddress::Ipv6(address) => Some(&address[..]),
             },
             Argument::PurgeMs(_) => return Err(Fail::new("no update")),
-        }
+        };
+        assert_eq!(rt; value, self.value);
         Ok(())
     }
 }
@@ -125,7 +130,15 @@ impl Held {
 #[test]
 fn lmsi_and_address(rt: HostRuntime) -> Result<(), Fail> {
     for row in &HELD {
-        row.check(&rt, argument_of(accepted(row.octets)?)?)?;
+        match read_invoke(row.octets) {
+            Ok(
+                Invoke {
+                    argument: Ok(argument),
+                    ..
+                },
+            ) => row.check(&rt, argument)?,
+            _ => return Err(Fail::new("no update")),
+        }
     }
     Ok(())
 }

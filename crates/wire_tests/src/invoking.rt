@@ -1,31 +1,26 @@
-// Invokes that are accepted, and those put together from the elements of their arguments.
+// What invokes are answered with, and invokes put together from the elements of their arguments.
 use component::invoke::{Invoke, read_invoke};
-use operation::argument::Argument;
+use operation::user_error::UserError;
 use std::alloc::Global;
 use std::process::Abort;
 use std::test::*;
 
-// An invoke that is accepted.
-pub fn accepted(octets: &[u8]) -> Result<Invoke, Fail> {
-    match read_invoke(octets) {
-        Ok(invoke) => Ok(invoke),
-        Err(_) => Err(Fail::new(format_args!("refused: {octets:?}"))),
-    }
-}
-
-// The argument of an invoke, if it is read.
-pub fn argument_of(invoke: Invoke) -> Result<Argument, Fail> {
-    match invoke.argument {
-        Ok(argument) => Ok(argument),
-        Err(_) => Err(Fail::new("the argument has a fault")),
-    }
-}
-
 // The number of the error that answers an invoke; none where its argument is read.
 pub fn error_of(octets: &[u8]) -> Result<Option<u8>, Fail> {
-    match accepted(octets)?.argument {
-        Ok(_) => Ok(None),
-        Err(fault) => Ok(Some(fault.error().number())),
+    match read_invoke(octets) {
+        Ok(
+            Invoke {
+                argument: Ok(_),
+                ..
+            },
+        ) => Ok(None),
+        Ok(
+            Invoke {
+                argument: Err(fault),
+                ..
+            },
+        ) => Ok(Some(UserError::from(fault).number())),
+        Err(_) => Err(Fail::new(format_args!("refused: {octets:?}"))),
     }
 }
 

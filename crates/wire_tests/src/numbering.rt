@@ -1,6 +1,6 @@
 // Node numbers that are refused, digits that are packed, and IMSIs that are compared.
 use super::made::*;
-use numbers::reading::number;
+use numbers::node::number;
 use std::test::*;
 
 #[rattlefmt::skip]
@@ -23,10 +23,8 @@ const NO_NUMBERS: [&[u8]; 10] = [
 #[test]
 fn what_is_no_node_number(rt: HostRuntime) -> Result<(), Fail> {
     for octets in &NO_NUMBERS {
-        match number(octets) {
-            Ok(_) => return Err(Fail::new("accepted")),
-            Err(fault) => assert_eq!(rt; fault.number(), 1),
-        }
+        let fault = number(octets).err().ok_or("accepted")?;
+        assert_eq!(rt; fault.number(), 1);
     }
     Ok(())
 }
@@ -56,7 +54,7 @@ fn packed_digits(rt: HostRuntime) -> Result<(), Fail> {
     Ok(())
 }
 
-// Two IMSIs, and whether they are equal.
+// Two IMSIs, and whether they are equal, which is what is asked of them.
 struct Pair {
     equal: bool,
     left: &'static [u8],

@@ -5,7 +5,7 @@ use component::invoke::read_invoke;
 use std::process::Abort;
 use std::test::*;
 
-// Octets that are refused, and the place and layer that come with the refusal, if it has them.
+// Octets that are refused, and the place and layer that come with the refusal, if it has them; as numbers, so that a row stays a line.
 pub struct Refused {
     pub spot: Option<(usize, u8)>,
     pub octets: &'static [u8],
@@ -14,7 +14,7 @@ pub struct Refused {
 // The place and the number of the layer, to be compared with a row's.
 fn place_and_layer(fault: ComponentFault) -> Option<(usize, u8)> {
     let spot = fault.spot()?;
-    Some((spot.place, spot.layer.number()))
+    Some((spot.place, u8::from(spot.layer)))
 }
 
 impl Refused {

@@ -1,10 +1,8 @@
-use Rattle.std.proofs.Common.{arith}
-use native.Mathlib.Nat.{sub-zero}
-use Rattle.numbers.proofs.Held.{long, decimal_in}
+use Rattle.std.proofs.Common.{◌≤◌, get_or, subst, sym}
+use Rattle.numbers.proofs.Held.{all_decimal, each}
 use Rattle.numbers.proofs.digits.Digits.as_slice.Goals as goal
 
-pub returns : goal.returns
-returns c =
-    let d = c.args.self.now in
-    let n = long d in
-    record { digits = simp sub-zero; few = simp sub-zero (omega arith); decimal = λ k. simp sub-zero (decimal_in d k) }
+pub returns-clause-decimal : goal.returns-clause-decimal
+returns-clause-decimal c =
+    let ds = c.args.self.now.digits in
+    λ k. subst (λ l. get_or l k 0 ≤ 9) (sym c.as_slice.ensures.all) (each ds (all_decimal ds c.args.self.now.digital) k)

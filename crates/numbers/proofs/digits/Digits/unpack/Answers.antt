@@ -1,62 +1,100 @@
-use Rattle.std.proofs.Common.{◌≡◌, ℕ, ◌+◌, ◌-◌, ◌<◌, ◌≤◌, [], ◌∷◌, ◌++◌, length, get_or, take, drop, set, replicate, sym, ap, ◌∙◌, subst, inl, inr, arith}
-use Rattle.numbers.specs.Packing.{unpacked, decimal}
-use Rattle.numbers.specs.Holding.{each, whole, padded}
-use Rattle.std.proofs.lemmas.List.{take_more, length-take-le}
-use Rattle.numbers.proofs.Halves.{long, half_is, half_within}
-use Rattle.numbers.proofs.Held.{none_below, none_above, none_wrong, value, decimal_push, entries_more, filled, digital_from}
+use Rattle.std.proofs.Common.{◌≡◌, suc, ◌/◌, ◌%◌, ◌++◌, ◌∷◌, [], cond, eqb, refl, length, drop, get_or, sym, ap, ◌∙◌, arith}
+use Rattle.std.proofs.lemmas.List.{nil_from_length, append_assoc, length-append, take_all}
+use Rattle.numbers.specs.Packing.{decimal, unpacked}
+use Rattle.numbers.specs.Digit.{digits_of}
+use Rattle.numbers.proofs.Held.{none_of_none, decimal_push, digital_push, value_of}
+use Rattle.numbers.proofs.Halves.{halves, halves_more, refused, unpacked_at, unpacked_filled, unpacked_last, unpacked_whole}
+use Rattle.numbers.proofs.digits.Digits.unpack.Goals.{then-last-ne15+in_ok-push_digit-4, else-last-ne15}
 use Rattle.numbers.proofs.digits.Digits.unpack.Goals as goal
 
-pub returns-then-octets-gt8 : goal.returns-then-octets-gt8
-returns-then-octets-gt8 c =
-    let bs = c.args.octets.now in
-    let n = long bs in
-    sym (none_above (unpacked bs) (omega arith))
+pub returns-in_err-last : goal.returns-in_err-last
+returns-in_err-last c =
+    c.from_residual.ensures ∙ sym (ap (λ bs. digits_of (unpacked bs)) (nil_from_length c.args.octets.now c.in_err-last.ensures.cases) ∙ none_of_none)
 
-pub returns-then-len-lt1 : goal.returns-then-len-lt1
-returns-then-len-lt1 c =
-    let ds = unpacked c.args.octets.now in
-    elim c.then-len-lt1.either [ inl h ↦ sym (none_below ds (omega arith)) | inr h ↦ sym (none_above ds (omega arith)) ]
+pub returns-in_err-push_digit : goal.returns-in_err-push_digit
+returns-in_err-push_digit c =
+    let bs = c.in_ok-last.front.now in
+    let b = c.in_ok-last.last.now in
+    let i = c.loop-octet.octet-index in
+    let rest = get_or bs i 0 / 16 ∷ unpacked (drop (suc i) bs ++ b ∷ []) in
+    c.from_residual-in_err-push_digit.ensures
+    ∙ refused c.args.octets.now bs b c.loop-octet.digits (get_or bs i 0 % 16) rest c.in_ok-last.ensures.cases.0
+    (unpacked_at bs b i (omega arith) ∙ ap (λ ds. ds ++ get_or bs i 0 % 16 ∷ rest) (sym c.loop-octet.invariant.0)) c.in_err-push_digit.ensures.room.1
 
-pub half-digit-requires : goal.half-digit-requires
-half-digit-requires c = half_within c.args.octets.now c.loop-i.i (omega arith)
+pub returns-in_err-push_digit-2 : goal.returns-in_err-push_digit-2
+returns-in_err-push_digit-2 c =
+    let bs = c.in_ok-last.front.now in
+    let b = c.in_ok-last.last.now in
+    let i = c.loop-octet.octet-index in
+    let low = get_or bs i 0 % 16 in
+    let high = get_or bs i 0 / 16 in
+    let rest = unpacked (drop (suc i) bs ++ b ∷ []) in
+    c.from_residual-in_err-push_digit-2.ensures
+    ∙ refused c.args.octets.now bs b c.push_digit.new.digits high rest c.in_ok-last.ensures.cases.0
+    (unpacked_at bs b i (omega arith) ∙ ap (λ ds. ds ++ low ∷ high ∷ rest) (sym c.loop-octet.invariant.0)
+    ∙ sym (ap (λ ds. ds ++ high ∷ rest) c.in_ok-push_digit.ensures.more ∙ append_assoc c.loop-octet.digits (low ∷ []) (high ∷ rest))) c.in_err-push_digit-2.ensures.room.1
 
-pub returns-then-digit-gt9 : goal.returns-then-digit-gt9
-returns-then-digit-gt9 c =
-    let bs = c.args.octets.now in
-    let e = half_is bs c.loop-i.i (omega arith) in
-    sym (none_wrong (unpacked bs) c.loop-i.i (omega arith))
-
-pub loop-i-preserved : goal.loop-i-preserved
-loop-i-preserved c =
-    let bs = c.args.octets.now in
-    let ds = unpacked bs in
-    let i = c.loop-i.i in
-    let h : i < length ds = omega arith in
-    let x = c.half-digit.result in
-    let e : get_or ds i 0 ≡ x = half_is bs i h ∙ sym c.half-digit.ensures in
-    let n : length (take i ds) ≡ i = length-take-le i ds (omega arith) in
-    let t : take i ds ++ x ∷ [] ≡ take (i + 1) ds = ap (λ y. take i ds ++ y ∷ []) (sym e) ∙ sym (take_more ds i 0 h) in
-    let f : i < 15 = omega arith in (
-      ap (λ l. set l i x) c.loop-i.invariant.0 ∙ entries_more (take i ds) x i n f ∙ ap (λ l. l ++ replicate (15 - (i + 1)) 0) t,
-      ap decimal (sym t) ∙ decimal_push (take i ds) x c.loop-i.invariant.1 c.if-digit-gt9.false,
+pub loop-octet-preserved : goal.loop-octet-preserved
+loop-octet-preserved c =
+    let bs = c.in_ok-last.front.now in
+    let i = c.loop-octet.octet-index in
+    let low = get_or bs i 0 % 16 in
+    let high = get_or bs i 0 / 16 in
+    let ds = c.loop-octet.digits in
+    let first = c.in_ok-push_digit.ensures.more in
+    let second = c.in_ok-push_digit-2.ensures.more in
+    let both : c.push_digit-in-loop-octet.new.digits ≡ ds ++ low ∷ high ∷ [] =
+    second ∙ ap (λ es. es ++ high ∷ []) first ∙ append_assoc ds (low ∷ []) (high ∷ []) in
+    let room = c.in_ok-push_digit.ensures.room.0 refl in
+    let room-2 = c.in_ok-push_digit-2.ensures.room.0 refl in (
+      both ∙ ap (λ es. es ++ low ∷ high ∷ []) c.loop-octet.invariant.0 ∙ sym (halves_more bs i (omega arith)),
+      ap decimal second ∙ decimal_push c.push_digit.new.digits high (ap decimal first ∙ decimal_push ds low c.loop-octet.invariant.1 room.0) room-2.0,
+      (let n = ap length second in let m = length-append c.push_digit.new.digits (high ∷ []) in omega arith),
     )
+
+pub returns-in_err-push_digit-3 : goal.returns-in_err-push_digit-3
+returns-in_err-push_digit-3 c =
+    let bs = c.in_ok-last.front.now in
+    let b = c.in_ok-last.last.now in
+    let rest = cond (eqb (b / 16) 15) [] (b / 16 ∷ []) in
+    c.from_residual-in_err-push_digit-3.ensures
+    ∙ refused c.args.octets.now bs b c.loop-octet.digits (b % 16) rest c.in_ok-last.ensures.cases.0
+    (unpacked_last bs b ∙ ap (λ ds. ds ++ b % 16 ∷ rest) (sym (c.loop-octet.invariant.0 ∙ ap halves (take_all c.loop-octet.octet-index bs (omega arith))))) c.in_err-push_digit-3.ensures.room.1
+
+pub returns-in_err-push_digit-4 : goal.returns-in_err-push_digit-4
+returns-in_err-push_digit-4 c =
+    let bs = c.in_ok-last.front.now in
+    let b = c.in_ok-last.last.now in
+    let more = c.in_ok-push_digit-3.ensures.more in
+    let front = c.loop-octet.invariant.0 ∙ ap halves (take_all c.loop-octet.octet-index bs (omega arith)) in
+    c.from_residual-in_err-push_digit-4.ensures
+    ∙ refused c.args.octets.now bs b c.push_digit-2.new.digits (b / 16) [] c.in_ok-last.ensures.cases.0
+    (unpacked_whole bs b c.if-last-ne15.true
+    ∙ sym (ap (λ ds. ds ++ b / 16 ∷ []) more ∙ append_assoc c.loop-octet.digits (b % 16 ∷ []) (b / 16 ∷ []) ∙ ap (λ ds. ds ++ b % 16 ∷ b / 16 ∷ []) front)) c.in_err-push_digit-4.ensures.room.1
 
 pub invariant_of-result : goal.invariant_of-result
 invariant_of-result c =
-    let ds = unpacked c.args.octets.now in
-    let n = c.count-len.ensures in
-    let f = filled ds c.loop-i.digits c.loop-i.i c.loop-i.invariant.0 c.loop-i.invariant.1 (omega arith) in
-    let e : (k : ℕ) → get_or c.loop-i.digits k 0 ≤ 9 = λ k. subst (λ l. get_or l k 0 ≤ 9) (sym f.0) (each ds _ f.1 k) in record {
-      whole = ap length f.0 ∙ whole ds (omega arith);
-      some = omega arith;
-      few = omega arith;
-      decimal = e;
-      padded = ap (λ k. drop k c.loop-i.digits) n ∙ ap (drop (length ds)) f.0 ∙ padded ds ∙ ap (λ k. replicate (15 - k) 0) (sym n);
-    }
+    let ds = c.loop-octet.digits in
+    let b = c.in_ok-last.last.now in
+    let first = c.in_ok-push_digit-3.ensures.more in
+    let room = c.in_ok-push_digit-3.ensures.room.0 refl in
+    elim c.if-last-ne15.branch [
+      | then-last-ne15+in_ok-push_digit-4 w ↦
+          record { digital = digital_push c.push_digit-2.new.digits (b / 16) _ (w.digits-is ∙ w.in_ok-push_digit-4.ensures.more) (ap decimal first ∙ decimal_push ds (b % 16) c.loop-octet.invariant.1 room.0) (w.in_ok-push_digit-4.ensures.room.0 refl) }
+      | else-last-ne15 w ↦ record { digital = digital_push ds (b % 16) _ (w.digits-is ∙ first) c.loop-octet.invariant.1 room }
+    ]
 
 pub returns : goal.returns
 returns c =
-    let ds = unpacked c.args.octets.now in
-    let n = c.count-len.ensures in
-    let f = filled ds c.loop-i.digits c.loop-i.i c.loop-i.invariant.0 c.loop-i.invariant.1 (omega arith) in
-    sym (value ds (digital_from ds f.1 (omega arith) (omega arith)) _ f.0 n)
+    let bs = c.in_ok-last.front.now in
+    let b = c.in_ok-last.last.now in
+    let ds = c.loop-octet.digits in
+    let first = c.in_ok-push_digit-3.ensures.more in
+    let front : ds ≡ halves bs = c.loop-octet.invariant.0 ∙ ap halves (take_all c.loop-octet.octet-index bs (omega arith)) in
+    let whole = ap unpacked c.in_ok-last.ensures.cases.0 in
+    value_of (unpacked c.args.octets.now) _ (elim c.if-last-ne15.branch [
+      | then-last-ne15+in_ok-push_digit-4 w ↦
+          w.digits-is ∙ w.in_ok-push_digit-4.ensures.more ∙ ap (λ es. es ++ b / 16 ∷ []) first ∙ append_assoc ds (b % 16 ∷ []) (b / 16 ∷ [])
+          ∙ ap (λ es. es ++ b % 16 ∷ b / 16 ∷ []) front ∙ sym (whole ∙ unpacked_whole bs b w.if-last-ne15.true)
+      | else-last-ne15 w ↦ w.digits-is ∙ first ∙ ap (λ es. es ++ b % 16 ∷ []) front ∙ sym (whole ∙ unpacked_filled bs b w.if-last-ne15.false)
+    ])

@@ -1,6 +1,7 @@
-use Rattle.std.proofs.Common.{◌≡◌, ◌-◌, true, ◌++◌, take, replicate}
-use Rattle.numbers.specs.Packing.{unpacked, decimal}
+use Rattle.std.proofs.Common.{◌≡◌, ◌≤◌, true, take, length}
+use Rattle.numbers.specs.Packing.{decimal}
+use Rattle.numbers.proofs.Halves.{halves}
 use Rattle.numbers.proofs.digits.Digits.unpack.Given as goal
 
-abbrev pub invariant-loop-i : goal.invariant-loop-i
-invariant-loop-i l = (l.digits ≡ take l.i (unpacked l.octets) ++ replicate (15 - l.i) 0) × (decimal (take l.i (unpacked l.octets)) ≡ true)
+abbrev pub invariant-loop-octet : goal.invariant-loop-octet
+invariant-loop-octet l = (l.digits ≡ halves (take l.octet-index l.front)) × (decimal l.digits ≡ true) × (length l.digits ≤ 15)

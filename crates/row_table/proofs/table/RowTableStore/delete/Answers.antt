@@ -1,16 +1,21 @@
-use Rattle.std.proofs.Common.{true, false, arith}
+use Rattle.std.proofs.Common.{true, length, None, sym, ap, subst, ◌∙◌, arith}
+use Rattle.std.proofs.lemmas.List.{length-set}
+use Rattle.store.specs.Calls.{Deleted}
+use Rattle.store.specs.Records.{once, record_of}
+use Rattle.store.specs.Rows.{records_in, unused}
+use Rattle.store.proofs.Writes.{delete_at, delete_none}
 use Rattle.row_table.proofs.table.RowTableStore.delete.Goals as goal
-use Rattle.store.proofs.RowLists.{deleted_in_list}
-use Rattle.store.proofs.Stores.{delete_known, delete_none, Removed}
-
-removed : (c : goal.After-free) → Removed c.args.self.now.buffer.rows.now c.args.imsi.now c.free.new.self.rows.now
-removed c = delete_known _ _ c.place-at.result _ c.args.self.now.apart c.place-at.ensures (omega (arith, c.len.ensures)) c.free.ensures
 
 pub invariant_of-self : goal.invariant_of-self
-invariant_of-self c = let r = removed c in record { few = omega (arith, r.size, c.args.self.now.few); apart = r.apart }
+invariant_of-self c =
+    let p = delete_at c.args.self.now.rows.now c.in-Some.at c.args.imsi.now c.args.self.now.apart (sym c.known.ensures ∙ c.in-Some.is) in
+    record { few = omega (arith, ap length c.write.ensures ∙ length-set c.args.self.now.rows.now c.in-Some.at None, c.args.self.now.few); apart = ap (λ ws. once (records_in ws)) c.write.ensures ∙ p.0 }
 
-pub returns-then-at-len : goal.returns-then-at-len
-returns-then-at-len c = deleted_in_list c.args.self.now.buffer.rows.now c.free.new.self.rows.now c.args.imsi.now true (delete_known c.args.self.now.buffer.rows.now _ c.place-at.result _ c.args.self.now.apart c.place-at.ensures (omega (arith, c.len.ensures)) c.free.ensures).done
+pub returns-in-Some : goal.returns-in-Some
+returns-in-Some c =
+    let ws = c.args.self.now.rows.now in
+    subst (λ vs. Deleted (record_of (records_in ws)) (unused ws) c.args.imsi.now true (record_of (records_in vs)) (unused vs)) (sym c.write.ensures)
+    (delete_at ws c.in-Some.at c.args.imsi.now c.args.self.now.apart (sym c.known.ensures ∙ c.in-Some.is)).1
 
-pub returns-else-at-len : goal.returns-else-at-len
-returns-else-at-len c = deleted_in_list c.args.self.now.buffer.rows.now c.args.self.now.buffer.rows.now c.args.imsi.now false (delete_none c.args.self.now.buffer.rows.now c.args.imsi.now (omega (arith, c.place-at.ensures, c.len.ensures)))
+pub returns-in-None : goal.returns-in-None
+returns-in-None c = delete_none c.args.self.now.rows.now c.args.imsi.now (sym c.known.ensures ∙ c.in-None.is)

@@ -1,25 +1,21 @@
-use Rattle.std.proofs.Common.{true, false, arith}
+use Rattle.std.proofs.Common.{true, length, sym, ap, subst, ◌∙◌, arith}
+use Rattle.std.proofs.lemmas.List.{length-set}
+use Rattle.store.specs.Calls.{Put}
+use Rattle.store.specs.Records.{once, record_of}
+use Rattle.store.specs.Rows.{records_in, unused}
+use Rattle.store.proofs.Writes.{put_at, put_full}
 use Rattle.row_table.proofs.table.RowTableStore.put.Goals as goal
-use Rattle.store.proofs.RowLists.{put_in_list}
-use Rattle.store.proofs.Stores.{put_known, put_new, put_full, Wrote}
 
-replaced : (c : goal.After-write) → Wrote c.args.self.now.buffer.rows.now c.args.subscriber c.write.new.self.rows.now
-replaced c = put_known _ _ c.place-at.result _ c.args.self.now.apart c.place-at.ensures (omega (arith, c.len.ensures)) c.write.ensures
-
-added : (c : goal.After-write-then-new-len) → Wrote c.args.self.now.buffer.rows.now c.args.subscriber c.write-then-new-len.new.self.rows.now
-added c = put_new _ _ c.vacant-new.result _ c.args.self.now.apart (omega (arith, c.place-at.ensures, c.len.ensures)) c.vacant-new.ensures (omega (arith, c.len-2.ensures)) c.write-then-new-len.ensures
+pub returns-in-None : goal.returns-in-None
+returns-in-None c = put_full c.args.self.now.rows.now c.args.subscriber (sym c.slot.ensures ∙ c.in-None.is)
 
 pub invariant_of-self : goal.invariant_of-self
-invariant_of-self c = let r = replaced c in record { few = omega (arith, r.size, c.args.self.now.few); apart = r.apart }
+invariant_of-self c =
+    let p = put_at c.args.self.now.rows.now c.in-Some.at c.args.subscriber c.args.self.now.apart (sym c.slot.ensures ∙ c.in-Some.is) in
+    record { few = omega (arith, ap length c.write.ensures ∙ length-set c.args.self.now.rows.now c.in-Some.at _, c.args.self.now.few); apart = ap (λ ws. once (records_in ws)) c.write.ensures ∙ p.0 }
 
-pub returns-then-at-len : goal.returns-then-at-len
-returns-then-at-len c = put_in_list c.args.self.now.buffer.rows.now c.write.new.self.rows.now c.args.subscriber true (put_known c.args.self.now.buffer.rows.now _ c.place-at.result c.args.subscriber c.args.self.now.apart c.place-at.ensures (omega (arith, c.len.ensures)) c.write.ensures).done
-
-pub invariant_of-self-then-new-len : goal.invariant_of-self-then-new-len
-invariant_of-self-then-new-len c = let r = added c in record { few = omega (arith, r.size, c.args.self.now.few); apart = r.apart }
-
-pub returns-then-new-len : goal.returns-then-new-len
-returns-then-new-len c = put_in_list c.args.self.now.buffer.rows.now c.write-then-new-len.new.self.rows.now c.args.subscriber true (put_new c.args.self.now.buffer.rows.now _ c.vacant-new.result c.args.subscriber c.args.self.now.apart (omega (arith, c.place-at.ensures, c.len.ensures)) c.vacant-new.ensures (omega (arith, c.len-2.ensures)) c.write-then-new-len.ensures).done
-
-pub returns : goal.returns
-returns c = put_in_list c.args.self.now.buffer.rows.now c.args.self.now.buffer.rows.now c.args.subscriber false (put_full c.args.self.now.buffer.rows.now c.args.subscriber (omega (arith, c.place-at.ensures, c.len.ensures)) (omega (arith, c.vacant-new.ensures, c.len-2.ensures)))
+pub returns-in-Some : goal.returns-in-Some
+returns-in-Some c =
+    let ws = c.args.self.now.rows.now in
+    subst (λ vs. Put (record_of (records_in ws)) (unused ws) c.args.subscriber true (record_of (records_in vs)) (unused vs)) (sym c.write.ensures)
+    (put_at ws c.in-Some.at c.args.subscriber c.args.self.now.apart (sym c.slot.ensures ∙ c.in-Some.is)).1

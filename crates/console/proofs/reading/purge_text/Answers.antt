@@ -1,4 +1,0 @@
-use Rattle.console.proofs.reading.purge_text.Goals as goal
-
-pub returns : goal.returns
-returns c = simp (c.in_ok-imsi.ensures, c.in_ok-vlr.ensures, c.in_ok-sgsn.ensures) at c.format.ensures.ok

@@ -1,0 +1,3 @@
+pub mod Padding
+pub mod Laws
+pub mod Text

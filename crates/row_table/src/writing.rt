@@ -1,0 +1,19 @@
+// The lent rows, written by functions that the slice is passed on to.
+ghost use Rattle.std.specs.Prelude.{◌≡◌, ◌<◌, None, length, replicate, slice_set};
+
+use store::row::Row;
+
+// The row at a place holds this record, or none.
+pub(crate) fn write(rows: &mut [Row], at: usize, row: Row)
+    requires { at < length rows.old }
+    ensures { rows.new ≡ slice_set rows.old at row }
+{
+    rows[at] = row;
+}
+
+// No row holds a record.
+pub(crate) fn free_all(rows: &mut [Row])
+    ensures { rows.new ≡ replicate (length rows.old) None }
+{
+    rows.fill(None);
+}
