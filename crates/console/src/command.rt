@@ -48,9 +48,7 @@ pub fn parse(heap: Global, line: &[u8]) -> Result<Option<Command>, LineFault> {
     if let [b'#', ..] = line {
         return Ok(None);
     }
-    let Ok(text) = from_utf8(line) else {
-        return Err(LineFault::NotUnderstood);
-    };
+    let text = from_utf8(line).map_err(|_| LineFault::NotUnderstood)?;
     let words: Vec<&str> = text.split_ascii_whitespace().collect(heap)?;
     parse_words(heap, words.as_slice())
 }

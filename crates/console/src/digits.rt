@@ -3,7 +3,7 @@ use super::fault::LineFault;
 use super::words::{half, octet};
 use std::alloc::Global;
 
-// Appends the octets of a text of digits, two characters at a time by a pattern.
+// Appends the octets of a text of digits. Two characters at a time by a pattern, as digits are packed: `chunks(2)` would leave a third shape to rule out.
 fn pack_text(octets: &mut Vec<u8>, text: &str) -> Result<(), LineFault> {
     let mut rest = text.as_bytes();
     while let [low, high, more @ ..] = rest {

@@ -61,7 +61,7 @@ impl fmt::Display for Asked {
     }
 }
 
-// What a component holds, or why it is refused.
+// What a component holds, or why it is refused: no Result, since it has a text of its own.
 #[derive(Clone, Copy)]
 pub enum Reading {
     Invoke(Invoke),
@@ -117,7 +117,7 @@ fn is_answer(octets: &[u8]) -> bool
     matches!(octets, [RESULT | ERROR, ..])
 }
 
-// A component with tag A2 or A3 is taken as a result or an error, any other as an invoke.
+// A component with tag A2 or A3 is taken as a result or an error, any other as an invoke. By `match`: under `map_or_else` the check fails at types that hold so much.
 pub fn read(octets: &[u8]) -> Reading
     ensures { result ≡ reading_of octets.now }
 {

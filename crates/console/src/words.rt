@@ -6,12 +6,7 @@ ghost use Rattle.console.specs.Text.{half_of, hex_value, octet_of};
 fn value(digit: u8) -> Option<u8>
     ensures { result ≡ hex_value digit }
 {
-    match digit {
-        b'0'..=b'9' => Some(digit - b'0'),
-        b'A'..=b'F' => Some(digit - b'A' + 10),
-        b'a'..=b'f' => Some(digit - b'a' + 10),
-        _ => None,
-    }
+    char::from(digit).to_digit(16).map(|value| value as u8)
 }
 
 // The octet that a word of two hexadecimal digits stands for.
@@ -28,9 +23,5 @@ pub fn octet(word: &str) -> Option<u8>
 pub fn half(character: u8) -> Option<u8>
     ensures { result ≡ half_of character }
 {
-    if character.is_ascii_lowercase() {
-        None
-    } else {
-        value(character)
-    }
+    value(character).filter(|_| !character.is_ascii_lowercase())
 }

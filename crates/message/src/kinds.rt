@@ -59,7 +59,7 @@ pub enum Service {
 }
 
 impl Service {
-    // The tag of a list of such codes.
+    // The tag of a list of such codes: where they stand in an insert and not what the service is, so no conversion.
     pub fn tag(self) -> u8
         ensures { result ≡ codes_tag self }
     {

@@ -67,8 +67,8 @@ impl Message {
         requires room { length self.old + 2 + length content.now ≤ 256 }
         ensures { self.new ≡ self.old ++ coded tag content.now }
     {
-        self.octets.push(tag);
-        self.octets.push(content.len() as u8);
-        self.octets.extend_from_slice(content);
+        self.octets.try_push(tag).unwrap();
+        self.octets.try_push(content.len() as u8).unwrap();
+        self.octets.try_extend_from_slice(content).unwrap();
     }
 }

@@ -31,8 +31,8 @@ impl Message {
     {
         let packed = digits.pack();
         let mut number = Octets::<9>::new();
-        number.push(0x91);
-        number.extend_from_slice(packed.as_slice());
+        number.try_push(0x91).unwrap();
+        number.try_extend_from_slice(packed.as_slice()).unwrap();
         self.put(tag, number.as_slice());
     }
 

@@ -1,17 +1,16 @@
 -- Numbers read from octets.
-use Rattle.std.proofs.Common.{◌≡◌, ℕ, ◌-◌, ◌<◌, Bool, true, false, leb, List, [], ◌∷◌, length, get_or, take, drop, Some, None, sym, refl, ap, ◌∙◌, arith}
+use Rattle.std.proofs.Common.{◌≡◌, ℕ, ◌-◌, ◌<◌, Bool, true, false, leb, List, length, get_or, take, drop, Some, None, sym, refl, ap, ◌∙◌, arith}
 use denote.Struct.Record.{values_one}
 use Rattle.std.proofs.lemmas.List.{take_rest}
 use Rattle.std.proofs.lemmas.Bool.{leb-true, leb-false}
 use Rattle.std.proofs.lemmas.Bool.Decides.{nat_tests}
 use Rattle.numbers.specs.contracts.digits.Digits.{the_row}
 use Rattle.numbers.specs.contracts.imsi.Imsi.{struct, the_propositions}
-use Rattle.numbers.specs.declared.address.GsnAddress.TheVariants.{Ipv4, Ipv6}
 use Rattle.numbers.specs.declared.digits.Digits.{Digits}
 use Rattle.numbers.specs.declared.imsi.Imsi.{Imsi}
 use Rattle.numbers.specs.Packing.{unpacked}
 use Rattle.numbers.specs.Digit.{digits_of}
-use Rattle.numbers.specs.Number.{and_then, long_imsi, imsi_holding, imsi_of, number_of, lmsi_of, address_of}
+use Rattle.numbers.specs.Number.{and_then, long_imsi, imsi_holding, imsi_of, number_of}
 
 pub same_imsi : (i j : Imsi) → i.digits ≡ j.digits → i ≡ j
 same_imsi i j p = values_one struct (the_propositions the_row.coded) i j (λ k. (p k, tt))
@@ -42,17 +41,3 @@ imsi_none bs e = ap (λ o. and_then o imsi_holding) e
 pub number_at : (bs : List ℕ) → get_or bs 0 0 ≡ 0x91 → digits_of (unpacked (take (length bs - 1) (drop 1 bs))) ≡ number_of bs
 unfolding number_of
 number_at bs e = ap (λ l. digits_of (unpacked l)) (take_rest bs 1) ∙ grind (arith, nat_tests)
-
-pub lmsi_at : (bs : List ℕ) → length bs ≡ 4 → Some (record { octets = get_or bs 0 0 ∷ get_or bs 1 0 ∷ get_or bs 2 0 ∷ get_or bs 3 0 ∷ [] }) ≡ lmsi_of bs
-lmsi_at [] h = absurd (omega arith)
-lmsi_at (a ∷ []) h = absurd (omega arith)
-lmsi_at (a ∷ b ∷ []) h = absurd (omega arith)
-lmsi_at (a ∷ b ∷ c ∷ []) h = absurd (omega arith)
-lmsi_at (a ∷ b ∷ c ∷ d ∷ []) h = refl
-lmsi_at (a ∷ b ∷ c ∷ d ∷ e ∷ bs) h = absurd (omega arith)
-
-pub address_4 : (bs : List ℕ) → get_or bs 0 0 ≡ 0x04 → length bs ≡ 5 → Some (Ipv4 (take (length bs - 1) (drop 1 bs))) ≡ address_of bs
-address_4 bs e h = ap (λ l. Some (Ipv4 l)) (take_rest bs 1) ∙ grind (arith, nat_tests)
-
-pub address_16 : (bs : List ℕ) → get_or bs 0 0 ≡ 0x50 → length bs ≡ 17 → Some (Ipv6 (take (length bs - 1) (drop 1 bs))) ≡ address_of bs
-address_16 bs e h = ap (λ l. Some (Ipv6 l)) (take_rest bs 1) ∙ grind (arith, nat_tests)

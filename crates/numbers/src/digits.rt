@@ -17,11 +17,10 @@ fn push_digit(digits: &mut Octets<15>, digit: u8) -> Option<()>
     ensures room { IsSome result ↔ ((digit ≤ 9) × (length digits.old < 15)) }
     ensures more { OnSome result (digits.new ≡ digits.old ++ digit ∷ []) }
 {
-    if digit > 9 || digits.len() >= 15 {
+    if digit > 9 {
         return None;
     }
-    digits.push(digit);
-    Some(())
+    digits.try_push(digit).ok()
 }
 
 impl Digits {
@@ -32,7 +31,7 @@ impl Digits {
         ensures { result ≡ zero_digits }
     {
         let mut digits = Octets::new();
-        digits.push(0);
+        digits.try_push(0).unwrap();
         Digits { digits }
     }
 
@@ -52,11 +51,11 @@ impl Digits {
         let mut octets = Octets::new();
         let mut rest = self.as_slice();
         while let [low, high, more @ ..] = rest {
-            octets.push(low + 16 * high);
+            octets.try_push(low + 16 * high).unwrap();
             rest = more;
         }
         if let [last] = rest {
-            octets.push(last + 0xf0);
+            octets.try_push(last + 0xf0).unwrap();
         }
         octets
     }

@@ -1,13 +1,17 @@
 // Lists of octets of a bounded length, held in place: copied as a whole, with no heap.
-ghost use Rattle.std.specs.Prelude.{◌≡◌, ◌+◌, ◌<◌, ◌≤◌, ◌==◌, [], ◌∷◌, ◌++◌, length};
+ghost use Rattle.std.specs.Prelude.{◌≡◌, ◌+◌, ◌<◌, ◌≤◌, ◌==◌, ◌↔◌, [], ◌∷◌, ◌++◌, length, IsOk, OnOk, OnErr};
 ghost use Rattle.std.specs.Str.{bytes_eq};
 ghost use Rattle.std.specs.Cmp.Rules.{comparing};
 ghost use Rattle.std.proofs.Common.{rules, arith};
 
 use std::marker::Model;
 
+// More octets than have room.
+#[derive(Clone, Copy, Debug, PartialEq, Eq)]
+pub struct Full;
+
 // Up to N octets, seen as the list of them. The places past them hold 0.
-// The one buffer here with a length beside it: with no heap, each bounded list stands on this one.
+// The one buffer here with a length beside it. No ArrayVec: values with octets in them are copied, compared and named by definitions, and that one is not Copy.
 #[derive(Clone, Copy)]
 pub struct Octets<const N: usize> {
     held: [u8; N],
@@ -60,24 +64,34 @@ impl<const N: usize> Octets<N> {
         self.len == 0
     }
 
-    // One octet more.
-    pub fn push(&mut self, octet: u8)
-        requires { length self.old < N }
-        ensures { self.new ≡ self.old ++ octet ∷ [] }
+    // One octet more; refused, and the list left as it was, where it is full.
+    pub fn try_push(&mut self, octet: u8) -> Result<(), Full>
+        ensures room { IsOk result ↔ (length self.old < N) }
+        ensures ok { OnOk result (self.new ≡ self.old ++ octet ∷ []) }
+        ensures err { OnErr result (self.new ≡ self.old) }
     {
+        if self.len >= N {
+            return Err(Full);
+        }
         self.held[self.len] = octet;
         self.len += 1;
+        Ok(())
     }
 
-    // Some octets more.
-    pub fn extend_from_slice(&mut self, more: &[u8])
-        requires { length self.old + length more.now ≤ N }
-        ensures { self.new ≡ self.old ++ more.now }
+    // Some octets more; refused, and the list left as it was, where not all of them have room.
+    pub fn try_extend_from_slice(&mut self, more: &[u8]) -> Result<(), Full>
+        ensures room { IsOk result ↔ (length self.old + length more.now ≤ N) }
+        ensures ok { OnOk result (self.new ≡ self.old ++ more.now) }
+        ensures err { OnErr result (self.new ≡ self.old) }
     {
+        if more.len() > N - self.len {
+            return Err(Full);
+        }
         let end = self.len + more.len();
         let held = &mut self.held[..];
         held[self.len..end].copy_from_slice(more);
         self.len = end;
+        Ok(())
     }
 }
 

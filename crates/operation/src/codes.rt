@@ -42,7 +42,7 @@ impl From<Request> for Operation {
     }
 }
 
-// The request with this operation code.
+// The request with this operation code. Written out, as those of other enums are: each names its own cases.
 impl TryFrom<u8> for Request {
     type Error = OutOfRange;
 
@@ -59,7 +59,7 @@ impl TryFrom<u8> for Request {
 }
 
 impl Operation {
-    // The tag of the operation's argument.
+    // The tag of the operation's argument: how it begins and not which operation it is, so no conversion.
     pub fn argument_tag(self) -> u8
         ensures { result ≡ argument_tag self }
     {

@@ -2,7 +2,7 @@ use super::entry::Entry;
 use arrayvec::ArrayVec;
 
 // Up to 32 entries, in the order in which they were added.
-#[derive(Drop)]
+#[derive(Clone, Drop)]
 pub struct RoamingList {
     pub entries: ArrayVec<Entry, 32>,
 }

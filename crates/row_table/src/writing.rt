@@ -3,7 +3,7 @@ ghost use Rattle.std.specs.Prelude.{◌≡◌, ◌<◌, None, length, replicate,
 
 use store::row::Row;
 
-// The row at a place holds this record, or none.
+// The row at a place holds this record, or none. By its place: of the other rows nothing is known after a write through `get_mut` or `iter_mut`.
 pub(crate) fn write(rows: &mut [Row], at: usize, row: Row)
     requires { at < length rows.old }
     ensures { rows.new ≡ slice_set rows.old at row }

@@ -11,7 +11,8 @@ pub struct Left {
     pub lmsi: Option<Lmsi>,
 }
 
-// The record afterwards, the node to cancel if the subscriber left one, and the error that answers, if one does.
+// The record afterwards, the node to cancel if the subscriber left one, and the error that answers, if one does. No Result: the record and the node are there
+// with an error as well.
 #[derive(Clone, Copy)]
 pub struct Update {
     pub record: Record,

@@ -6,7 +6,7 @@ ghost use Rattle.store.specs.Rows.{first_unused, has, index_of};
 use super::row::Row;
 use numbers::imsi::Imsi;
 
-// Whether a row holds a record of this IMSI.
+// Whether a row holds a record of this IMSI. By `match`: under `is_some_and` nothing is proved of the closure's answer.
 fn holds(row: &Row, imsi: &Imsi) -> bool
     ensures { result ≡ has imsi.now row.now }
 {

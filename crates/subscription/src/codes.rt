@@ -7,7 +7,7 @@ use super::code_list::CodeList;
 use super::profile::SubscriptionFault;
 use octets::list::Octets;
 
-// Whether no code stands twice.
+// Whether no code stands twice. A recursion: of a chain over `enumerate` with the rest of the slice nothing was proved.
 fn all_once(codes: &[u8]) -> bool
     ensures { result ≡ once codes.now }
 {
@@ -41,7 +41,7 @@ impl CodeList {
             return Err(SubscriptionFault::OutOfRange);
         }
         let mut codes = Octets::new();
-        codes.extend_from_slice(octets);
+        codes.try_extend_from_slice(octets).unwrap();
         Ok(CodeList { codes })
     }
 

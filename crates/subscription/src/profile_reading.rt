@@ -53,7 +53,8 @@ impl TryFrom<u8> for Bar {
 }
 
 impl Profile {
-    // The profile in these octets; refused where a field is out of range or a code stands twice.
+    // The profile in these octets; refused where a field is out of range or a code stands twice. Named like the lists that it reads: fields are decoded, and some
+    // refused, which is more than a conversion.
     pub fn read(raw: RawProfile) -> Result<Profile, SubscriptionFault>
         ensures { result ≡ profile_of (raw_of raw.entry) }
     {
