@@ -35,7 +35,11 @@ fn parse_words(heap: Global, words: &[&str]) -> Result<Option<Command>, LineFaul
         [first, ..] if first.starts_with('#') => return Ok(None),
         ["own", number] => Command::Own(number_octets(heap, number)?),
         ["roam", digits, class] => Command::Roam(digit_octets(heap, digits)?, small(class)?),
-        ["roams", node, bar] => Command::Roams(number_octets(heap, node)?, small(bar)?),
+        ["roams", node, bar] => {
+            // The bar first: a line that is not understood for it asks for no memory.
+            let bar = small(bar)?;
+            Command::Roams(number_octets(heap, node)?, bar)
+        }
         ["store", "rows", rows] => Command::Rows(rows.parse::<u64>()?),
         ["read", octets @ ..] => Command::Read(word_octets(heap, octets)?),
         _ => return Err(LineFault::NotUnderstood),

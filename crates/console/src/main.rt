@@ -62,11 +62,16 @@ fn play_line(rt: &HostRuntime, setup: &mut Setup, number: u64, line: &[u8]) -> i
     }
 }
 
+// One line is read after another into the same memory: lines of their own would ask for more, and a long one might not be had.
 fn main(rt: HostRuntime) -> io::Result<()> {
-    let input = BufReader::new(rt.alloc(), rt.stdin())?;
+    let mut input = BufReader::new(rt.alloc(), rt.stdin())?;
+    let mut line = Vec::new(rt.alloc());
     let mut setup = Setup::new();
-    for (line, number) in input.split(rt.alloc(), b'\n').zip(1..u64::MAX) {
-        let line = line?;
+    for number in 1..u64::MAX {
+        line.clear();
+        if input.read_until(b'\n', &mut line)? == 0 {
+            break;
+        }
         play_line(&rt, &mut setup, number, line.as_slice())?;
     }
     Ok(())

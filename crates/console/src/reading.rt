@@ -73,27 +73,22 @@ impl fmt::Display for Reading {
     ghost output = { λ r. Some (reading_text r) };
 
     fn fmt<W: fmt::Write>(&self, f: &mut fmt::Formatter<W>) -> fmt::Result {
-        match self {
-            Reading::Invoke(
-                Invoke {
-                    id,
-                    argument: Ok(argument),
-                },
-            ) => {
-                let argument = Asked(*argument);
-                write!(f, "read: invoke {id} {argument}")
-            }
-            Reading::Invoke(
-                Invoke {
-                    id,
-                    argument: Err(fault),
-                },
-            ) => {
-                let error = UserError::from(*fault).number();
-                write!(f, "read: invoke {id} error {error}")
+        match *self {
+            Reading::Invoke(invoke) => {
+                let id = invoke.id;
+                match invoke.argument {
+                    Ok(argument) => {
+                        let argument = Asked(argument);
+                        write!(f, "read: invoke {id} {argument}")
+                    }
+                    Err(fault) => {
+                        let error = UserError::from(fault).number();
+                        write!(f, "read: invoke {id} error {error}")
+                    }
+                }
             }
             Reading::Answer(Answer::Result { id, code }) => {
-                let code = OrNone(*code);
+                let code = OrNone(code);
                 write!(f, "read: result {id} code {code}")
             }
             Reading::Answer(Answer::Error { id, code }) => {

@@ -7,7 +7,7 @@ use roaming::decision::decide;
 use roaming::roaming_list::RoamingList;
 use subscription::profile::Bar;
 
-#[derive(Drop)]
+#[derive(Clone, Copy)]
 pub struct Setup {
     pub own: NodeNumber,
     pub roaming: RoamingList,

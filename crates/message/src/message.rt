@@ -41,6 +41,7 @@ impl Message {
     pub fn copy_to(&self, out: &mut [u8]) -> Option<usize>
         ensures result { result ≡ copied self.now out.old }
         ensures buffer { out.new ≡ overlaid self.now out.old }
+        ensures few { length self.now ≤ 256 }
     {
         let message = self.as_slice();
         let len = message.len();

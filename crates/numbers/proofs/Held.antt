@@ -1,17 +1,27 @@
 -- When digits are held, and by which value.
-use Rattle.std.proofs.Common.{◌≡◌, ℕ, zero, suc, ◌<◌, ◌≤◌, Bool, true, false, leb, List, [], ◌∷◌, ◌++◌, length, get_or, Some, None, sym, refl, ap, ◌∙◌, arith}
+use Rattle.std.proofs.Common.{◌≡◌, ℕ, zero, suc, ◌-◌, ◌<◌, ◌≤◌, Bool, true, false, leb, List, [], ◌∷◌, ◌++◌, length, get_or, replicate, Some, None, sym, refl, ap, ◌∙◌, arith, take-append-drop}
 use denote.Struct.Record.{values_one}
-use Rattle.std.specs.Coded.{coded_list, coded_ℕ}
-use Rattle.std.proofs.lemmas.List.{length-append}
+use Rattle.std.proofs.lemmas.List.{length-append, length-take-le}
 use Rattle.std.proofs.lemmas.Bool.{true≢false, and_left, and_right, and_from, and_parts, lt-leb, le-leb, leb-true}
+use Rattle.octets.specs.Padding.{filled}
+use Rattle.octets.proofs.Filled.{laws}
 use Rattle.numbers.specs.contracts.digits.Digits.{struct, the_propositions}
 use Rattle.numbers.specs.declared.digits.Digits.{Digits}
 use Rattle.numbers.specs.Packing.{decimal, digital}
-use Rattle.numbers.specs.Digit.{held, digits_of}
+use Rattle.numbers.specs.Digit.{digits_in, holding, held, digits_of}
+
+pub same_fields : (d e : Digits) → d.digits ≡ e.digits → d.len ≡ e.len → d ≡ e
+same_fields d e p q = values_one struct the_propositions d e (λ i. (p i, (q i, tt)))
+
+pub count : (d : Digits) → length (digits_in d) ≡ d.len
+count d = let w = d.whole in let f = d.few in length-take-le d.len d.digits (omega arith)
+
+places : (d : Digits) → d.digits ≡ filled 15 (digits_in d)
+places d = sym (take-append-drop d.len d.digits) ∙ ap (λ l. digits_in d ++ l) d.padded ∙ ap (λ n. digits_in d ++ replicate (15 - n) 0) (sym (count d))
 
 -- two values with the same digits are one
-pub same : (d e : Digits) → d.digits ≡ e.digits → d ≡ e
-same d e p = values_one struct (the_propositions (coded_list coded_ℕ)) d e (λ i. (p i, tt))
+pub same : (d e : Digits) → digits_in d ≡ digits_in e → d ≡ e
+same d e h = same_fields d e (places d ∙ ap (filled 15) h ∙ sym (places e)) (sym (count d) ∙ ap length h ∙ count e)
 
 -- what 1 to 15 digits are
 pub some : (ds : List ℕ) → digital ds ≡ true → 1 ≤ length ds
@@ -32,15 +42,15 @@ each (d ∷ ds) e zero = leb-true d 9 (and_parts (leb d 9) (decimal ds) e).0
 each (d ∷ ds) e (suc k) = each ds (and_parts (leb d 9) (decimal ds) e).1 k
 
 -- the value of digits
-at_true : (ds : List ℕ) (b : Bool) (e : digital ds ≡ b) → b ≡ true → (d : Digits) → d.digits ≡ ds → held ds b e ≡ Some d
+at_true : (ds : List ℕ) (b : Bool) (e : digital ds ≡ b) → b ≡ true → (d : Digits) → digits_in d ≡ ds → held ds b e ≡ Some d
 at_true ds false e h d p = absurd (true≢false (sym h))
-at_true ds true e h d p = ap Some (same (record { digits = ds; digital = e }) d (sym p))
+at_true ds true e h d p = ap Some (same (holding ds e) d (laws.held 15 ds ∙ sym p))
 
-pub value : (ds : List ℕ) → digital ds ≡ true → (d : Digits) → d.digits ≡ ds → digits_of ds ≡ Some d
+pub value : (ds : List ℕ) → digital ds ≡ true → (d : Digits) → digits_in d ≡ ds → digits_of ds ≡ Some d
 unfolding digits_of
 value ds e d p = at_true ds (digital ds) refl e d p
 
-pub value_of : (ds : List ℕ) (d : Digits) → d.digits ≡ ds → Some d ≡ digits_of ds
+pub value_of : (ds : List ℕ) (d : Digits) → digits_in d ≡ ds → Some d ≡ digits_of ds
 value_of ds d p = sym (value ds (ap digital (sym p) ∙ d.digital) d p)
 
 at_false : (ds : List ℕ) (b : Bool) (e : digital ds ≡ b) → b ≡ false → held ds b e ≡ None

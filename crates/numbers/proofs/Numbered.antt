@@ -15,24 +15,24 @@ use Rattle.numbers.specs.Number.{and_then, long_imsi, imsi_holding, imsi_of, num
 pub same_imsi : (i j : Imsi) → i.digits ≡ j.digits → i ≡ j
 same_imsi i j p = values_one struct (the_propositions the_row.coded) i j (λ k. (p k, tt))
 
-at_long : (d : Digits) (b : Bool) (e : leb 5 (length d.digits) ≡ b) (i : Imsi) → i.digits ≡ d → long_imsi d b e ≡ Some i
+at_long : (d : Digits) (b : Bool) (e : leb 5 d.len ≡ b) (i : Imsi) → i.digits ≡ d → long_imsi d b e ≡ Some i
 at_long d true e i p = ap Some (same_imsi _ i (sym p))
 at_long d false e i p =
-    let s = leb-false 5 (length d.digits) e in
+    let s = leb-false 5 d.len e in
     let l = i.long in
-    let n : length i.digits.digits ≡ length d.digits = ap (λ x. length x.digits) p in absurd (omega arith)
+    let n : i.digits.len ≡ d.len = ap (λ x. x.len) p in absurd (omega arith)
 
-at_short : (d : Digits) (b : Bool) (e : leb 5 (length d.digits) ≡ b) → length d.digits < 5 → long_imsi d b e ≡ None
-at_short d true e h = let l = leb-true 5 (length d.digits) e in absurd (omega arith)
+at_short : (d : Digits) (b : Bool) (e : leb 5 d.len ≡ b) → d.len < 5 → long_imsi d b e ≡ None
+at_short d true e h = let l = leb-true 5 d.len e in absurd (omega arith)
 at_short d false e h = refl
 
 pub imsi_long : (bs : List ℕ) (d : Digits) (i : Imsi) → Some d ≡ digits_of (unpacked bs) → i.digits ≡ d → Some i ≡ imsi_of bs
 unfolding imsi_of
-imsi_long bs d i e p = sym (at_long d (leb 5 (length d.digits)) refl i p) ∙ ap (λ o. and_then o imsi_holding) e
+imsi_long bs d i e p = sym (at_long d (leb 5 d.len) refl i p) ∙ ap (λ o. and_then o imsi_holding) e
 
-pub imsi_short : (bs : List ℕ) (d : Digits) → Some d ≡ digits_of (unpacked bs) → length d.digits < 5 → None ≡ imsi_of bs
+pub imsi_short : (bs : List ℕ) (d : Digits) → Some d ≡ digits_of (unpacked bs) → d.len < 5 → None ≡ imsi_of bs
 unfolding imsi_of
-imsi_short bs d e h = sym (at_short d (leb 5 (length d.digits)) refl h) ∙ ap (λ o. and_then o imsi_holding) e
+imsi_short bs d e h = sym (at_short d (leb 5 d.len) refl h) ∙ ap (λ o. and_then o imsi_holding) e
 
 pub imsi_none : (bs : List ℕ) → None ≡ digits_of (unpacked bs) → None ≡ imsi_of bs
 unfolding imsi_of

@@ -4,6 +4,7 @@ use Rattle.std.specs.Option.{option_map}
 use Rattle.std.proofs.lemmas.Slice.Eq.{bytes_eq-Decides}
 use Rattle.std.proofs.lemmas.Bool.{and_parts, leb-true, eqb-true, ne_eqb}
 use Rattle.std.proofs.lemmas.Bool.Decides.{Decides-like}
+use Rattle.octets.proofs.Filled.{laws as padding}
 use Rattle.numbers.specs.declared.address.GsnAddress.{GsnAddress}
 use Rattle.numbers.specs.declared.address.GsnAddress.TheVariants.{Ipv4, Ipv6}
 use Rattle.numbers.specs.declared.digits.Digits.{Digits}
@@ -16,7 +17,7 @@ use Rattle.numbers.proofs.Held.{same, value, all_decimal}
 use Rattle.numbers.proofs.Numbered.{same_imsi, imsi_long}
 
 at_held : (ds : List ℕ) (b : Bool) (e : digital ds ≡ b) → option_map digits_in (held ds b e) ≡ cond b (Some ds) None
-at_held ds true e = refl
+at_held ds true e = ap Some (padding.held 15 ds)
 at_held ds false e = refl
 
 holds : (ds : List ℕ) → option_map digits_in (digits_of ds) ≡ cond (digital ds) (Some ds) None
@@ -80,13 +81,13 @@ named ds d e = from (digital ds) (ap (option_map digits_in) (sym e) ∙ holds ds
 digits_written : (bs : List ℕ) (d : Digits) → digits_of (unpacked bs) ≡ Some d → packed (digits_in d) ≡ bs
 digits_written bs d e = ap packed (named (unpacked bs) d e) ∙ packed_unpacked bs
 
-at_imsi : (d : Digits) (b : Bool) (e : leb 5 (length d.digits) ≡ b) (i : Imsi) → long_imsi d b e ≡ Some i → d ≡ i.digits
-at_imsi d true e i h = let p : record { digits = d; long = leb-true 5 (length d.digits) e } ≡ i = cc in ap (λ j. j.digits) p
+at_imsi : (d : Digits) (b : Bool) (e : leb 5 d.len ≡ b) (i : Imsi) → long_imsi d b e ≡ Some i → d ≡ i.digits
+at_imsi d true e i h = let p : record { digits = d; long = leb-true 5 d.len e } ≡ i = cc in ap (λ j. j.digits) p
 at_imsi d false e i h = let z : ◌≡◌ {A = ℕ} 0 1 = cc in absurd (omega arith)
 
 from_imsi : (o : Option Digits) (i : Imsi) → and_then o imsi_holding ≡ Some i → o ≡ Some i.digits
 from_imsi None i e = let z : ◌≡◌ {A = ℕ} 0 1 = cc in absurd (omega arith)
-from_imsi (Some d) i e = ap Some (at_imsi d (leb 5 (length d.digits)) refl i e)
+from_imsi (Some d) i e = ap Some (at_imsi d (leb 5 d.len) refl i e)
 
 imsi_written : (bs : List ℕ) (i : Imsi) → imsi_of bs ≡ Some i → packed (digits_in i.digits) ≡ bs
 unfolding imsi_of

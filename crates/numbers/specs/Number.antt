@@ -16,13 +16,13 @@ abbrev pub and_then : {A B : Type 0} → Option A → (A → Option B) → Optio
 and_then None f = None
 and_then (Some a) f = f a
 
-abbrev pub long_imsi : (d : Digits) (b : Bool) → nat_le 5 (length d.digits) ≡ b → Option Imsi
-long_imsi d true e = Some (record { digits = d; long = leb-true 5 (length d.digits) e })
+abbrev pub long_imsi : (d : Digits) (b : Bool) → nat_le 5 d.len ≡ b → Option Imsi
+long_imsi d true e = Some (record { digits = d; long = leb-true 5 d.len e })
 long_imsi d false e = None
 
 -- digits are an IMSI's if there are at least 5
 abbrev pub imsi_holding : Digits → Option Imsi
-imsi_holding d = long_imsi d (nat_le 5 (length d.digits)) refl
+imsi_holding d = long_imsi d (nat_le 5 d.len) refl
 
 -- the IMSI that is packed in octets
 unfoldable pub imsi_of : List ℕ → Option Imsi

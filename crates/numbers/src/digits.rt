@@ -1,15 +1,20 @@
 // Decimal digits, packed two to an octet.
-ghost use Rattle.std.specs.Prelude.{◌≡◌, ℕ, ◌<◌, ◌≤◌, ◌↔◌, ◌++◌, ◌∷◌, [], Some, true, length, slice_index, IsSome, OnSome};
+ghost use Rattle.std.specs.Prelude.{◌≡◌, ℕ, ◌-◌, ◌<◌, ◌≤◌, ◌↔◌, ◌++◌, ◌∷◌, [], Some, true, length, take, drop, replicate, slice_index, IsSome, OnSome};
 ghost use Rattle.numbers.specs.Packing.{digital, packed, unpacked};
 
 use octets::list::Octets;
 use std::fmt;
 
-// 1 to 15 decimal digits.
-#[derive(Clone, Copy, PartialEq)]
+// 1 to 15 decimal digits. Places past them are 0, so that the same digits are the same value.
+// Places of its own and no `Octets`: a struct round one is `Copy`, but today's check refuses a local of it that is passed by value twice. All numbers, stays and records hold digits.
+#[derive(Clone, Copy)]
 pub struct Digits {
-    pub digits: Octets<15>,
-    ghost digital: { digital digits ≡ true },
+    pub digits: [u8; 15],
+    pub len: u8,
+    ghost whole: { length digits ≡ 15 },
+    ghost few: { len ≤ 15 },
+    ghost digital: { digital (take len digits) ≡ true },
+    ghost padded: { drop len digits ≡ replicate (15 - len) 0 },
 }
 
 // One digit more; none where it is above 9 or there are 15 already.
@@ -30,9 +35,25 @@ impl Digits {
     pub fn zero() -> Digits
         ensures { result ≡ zero_digits }
     {
-        let mut digits = Octets::new();
-        digits.try_push(0).unwrap();
-        Digits { digits }
+        Digits {
+            digits: [0; 15],
+            len: 1,
+        }
+    }
+
+    // The value that holds these digits.
+    fn holding(digits: &Octets<15>) -> Digits
+        requires { digital digits.now ≡ true }
+        ensures { Some result ≡ digits_of digits.now }
+    {
+        let held = digits.as_slice();
+        let len = held.len();
+        let mut digits = [0; 15];
+        digits[..len].copy_from_slice(held);
+        Digits {
+            digits,
+            len: len as u8,
+        }
     }
 
     pub fn as_slice(&self) -> &[u8]
@@ -40,7 +61,7 @@ impl Digits {
         ensures few { length result.now ≤ 15 }
         ensures decimal { (k : ℕ) → slice_index result.now k ≤ 9 }
     {
-        self.digits.as_slice()
+        &self.digits[..self.len as usize]
     }
 
     // The digits, two to an octet, low half first. F fills the last octet after an odd count.
@@ -75,7 +96,22 @@ impl Digits {
         if last / 16 != 15 {
             push_digit(&mut digits, last / 16)?;
         }
-        Some(Digits { digits })
+        Some(Digits::holding(&digits))
+    }
+}
+
+// Two values are equal exactly when they hold the same digits. Not derived: that would compare the places past them too, and say so to callers.
+impl PartialEq for Digits {
+    ghost use Rattle.numbers.specs.Digit.{same_digits};
+    ghost use Rattle.std.specs.Cmp.Rules.{comparing};
+    ghost use Rattle.std.proofs.Common.{rules, arith};
+
+    ghost eq = { λ x y. same_digits x y };
+
+    ghost laws = { first_of (Prim.search (comparing, rules), Prim.grind (arith, Self.row.coded.inj)) };
+
+    fn eq(&self, other: &Digits) -> bool {
+        self.as_slice() == other.as_slice()
     }
 }
 

@@ -1,5 +1,5 @@
 // IMSIs.
-ghost use Rattle.std.specs.Prelude.{◌≡◌, ◌≤◌, length};
+ghost use Rattle.std.specs.Prelude.{◌≡◌, ◌≤◌};
 
 use super::digits::Digits;
 
@@ -7,7 +7,7 @@ use super::digits::Digits;
 #[derive(Clone, Copy, PartialEq)]
 pub struct Imsi {
     pub digits: Digits,
-    ghost long: { 5 ≤ length digits.digits },
+    ghost long: { 5 ≤ digits.len },
 }
 
 impl Imsi {

@@ -1,6 +1,7 @@
 -- Octets in a fixed number of places.
-use Rattle.std.proofs.Common.{◌≡◌, ℕ, zero, suc, ◌+◌, ◌-◌, List, [], ◌∷◌, ◌++◌, length, get_or, replicate, refl, ap, ◌∙◌, length-append, arith}
-use Rattle.std.proofs.lemmas.List.{length-replicate, drop_at, take_at}
+use Rattle.std.proofs.Common.{◌≡◌, ℕ, zero, suc, ◌+◌, ◌-◌, List, [], ◌∷◌, ◌++◌, length, drop, get_or, replicate, refl, ap, ◌∙◌, length-append, arith}
+use Rattle.std.proofs.lemmas.List.{length-replicate, drop-replicate, drop_at, take_at}
+use Rattle.octets.specs.Padding.{filled}
 use Rattle.octets.specs.Laws.{OctetLaws}
 
 zeros : (n k : ℕ) → get_or {A = ℕ} (replicate n 0) k 0 ≡ 0
@@ -20,3 +21,7 @@ laws = record {
   padded = λ n bs. drop_at bs (replicate (n - length bs) 0) (length bs) refl;
   entries = λ n bs k. entries bs (n - length bs) k;
 }
+
+-- octets copied over zeros fill the places
+pub copied : (n : ℕ) (bs ys : List ℕ) → ys ≡ bs → ys ++ drop (length bs) (replicate n 0) ≡ filled n bs
+copied n bs ys e = ap (λ l. l ++ drop (length bs) (replicate n 0)) e ∙ ap (λ l. bs ++ l) (drop-replicate (length bs) n 0)

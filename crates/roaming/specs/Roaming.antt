@@ -1,5 +1,6 @@
 -- Roaming: which entry decides, and what it decides.
-use Rattle.std.specs.Prelude.{ℕ, ◌-◌, Bool, cond, List, [], ◌∷◌, ◌++◌, length, filter, fold, Some, None, Ok, Err, Option, Result, ◌==◌, nat_eq, nat_le, nat_lt}
+use Rattle.std.specs.Prelude.{ℕ, ◌-◌, Bool, true, cond, List, [], ◌∷◌, ◌++◌, length, take, filter, fold, Some, None, Ok, Err, Option, Result, ◌==◌, nat_eq, nat_lt}
+use Rattle.std.specs.Borrow.{Bor}
 use Rattle.std.specs.Option.{option_map}
 use Rattle.std.specs.List.{starts_with}
 use Rattle.octets.specs.declared.range.OutOfRange.{OutOfRange}
@@ -41,16 +42,24 @@ decided (Some c) b = cond (nat_lt (2 - bar_number b) (class_number c)) (Err Oper
 
 -- the entries of a list, in the order in which they were added
 abbrev pub entries_in : RoamingList → List Entry
-entries_in l = l.entries.items
+entries_in l = take l.len l.entries
 
 -- an entry's digits are the first digits of a node's number
 abbrev pub leads : List ℕ → List ℕ → Bool
 leads e n = starts_with nat_eq n e
 
+-- the entry that is lent
+abbrev pub lent : Option (Bor Entry) → Option Entry
+lent None = None
+lent (Some e) = Some e.now
+
 -- an entry decides in place of the best so far if it is longer; between equal ones the first added decides
+abbrev pub is_longer : Entry → Option Entry → Bool
+is_longer e None = true
+is_longer e (Some b) = nat_lt (length (digits_in b.digits)) (length (digits_in e.digits))
+
 abbrev pub longer_of : Option Entry → Entry → Option Entry
-longer_of None e = Some e
-longer_of (Some b) e = cond (nat_le (length (digits_in e.digits)) (length (digits_in b.digits))) (Some b) (Some e)
+longer_of b e = cond (is_longer e b) (Some e) b
 
 -- the entry that decides, of those that lead a node's number
 abbrev pub deciding : List ℕ → List Entry → Option Entry

@@ -16,16 +16,6 @@ pub struct Entry {
     pub class: Class,
 }
 
-// What fills a list's unused places. By hand: digits have facts that a derive cannot show.
-impl Default for Entry {
-    fn default() -> Entry {
-        Entry {
-            digits: Digits::zero(),
-            class: Class::HomeNetwork,
-        }
-    }
-}
-
 // Why an entry is refused: it has not 1 to 15 digits or no known class, or the list is full.
 #[derive(Clone, Copy, Debug, PartialEq, Eq)]
 pub enum RoamFault {

@@ -1,11 +1,10 @@
 // The roaming list: adding an entry, and the entry that decides for a node.
-ghost use Rattle.std.specs.Prelude.{◌≡◌, []};
+ghost use Rattle.std.specs.Prelude.{◌≡◌, [], cond};
 ghost use Rattle.numbers.specs.Digit.{digits_in};
-ghost use Rattle.roaming.specs.Roaming.{after, answer, class_for, deciding, entries_in, entry_of, leads, longer_of, roamed};
+ghost use Rattle.roaming.specs.Roaming.{after, answer, class_for, deciding, entries_in, entry_of, is_longer, leads, lent, longer_of, roamed};
 
 use super::entry::{Class, Entry, RoamFault};
 use super::roaming_list::RoamingList;
-use arrayvec::ArrayVec;
 use numbers::digits::Digits;
 
 // Whether an entry's digits are the first digits of a node's number.
@@ -15,24 +14,36 @@ fn leads_node(entry: &Digits, node: &Digits) -> bool
     node.as_slice().starts_with(entry.as_slice())
 }
 
-// An entry decides in place of the best so far if it has more digits. Between equal ones the first added decides.
-fn longer_of(best: Option<Entry>, entry: &Entry) -> Option<Entry>
-    ensures { result ≡ longer_of best entry.now }
+// Whether an entry decides in place of the best so far: it does if it has more digits. Between equal ones the first added decides.
+fn is_longer(entry: &Entry, best: Option<&Entry>) -> bool
+    ensures { result ≡ is_longer entry.now (lent best.entry) }
 {
     match best {
-        Some(best) if entry.digits.as_slice().len() <= best.digits.as_slice().len() => Some(best),
-        _ => Some(*entry),
+        None => true,
+        Some(best) => entry.digits.len > best.digits.len,
     }
 }
 
-// The entry that decides for a node, if there is one.
-fn deciding_entry(entries: &[Entry], node: &Digits) -> Option<Entry>
-    ensures { result ≡ deciding (digits_in node.now) entries.now }
+// The better of the best so far and an entry, if that one leads the node's number.
+fn better_of<'a>(best: Option<&'a Entry>, entry: &'a Entry, node: &Digits) -> Option<&'a Entry>
+    ensures { lent result ≡ cond (leads (digits_in entry.now.digits) (digits_in node.now)) (longer_of (lent best.entry) entry.now) (lent best.entry) }
 {
-    entries
-        .iter()
-        .filter(|entry| leads_node(&entry.digits, node))
-        .fold(None, longer_of)
+    if leads_node(&entry.digits, node) && is_longer(entry, best) {
+        Some(entry)
+    } else {
+        best
+    }
+}
+
+// The entry that decides for a node, if there is one. A loop over what is lent: under a fold the best so far was copied at each entry, which took half as long again.
+fn deciding_entry<'a>(entries: &'a [Entry], node: &Digits) -> Option<&'a Entry>
+    ensures { lent result ≡ deciding (digits_in node.now) entries.now }
+{
+    let mut best = None;
+    for entry in entries {
+        best = better_of(best, entry, node);
+    }
+    best
 }
 
 // An entry from its packed digits and the number of its class.
@@ -48,8 +59,13 @@ impl RoamingList {
     pub fn empty() -> RoamingList
         ensures { entries_in result ≡ [] }
     {
+        let unused = Entry {
+            digits: Digits::zero(),
+            class: Class::HomeNetwork,
+        };
         RoamingList {
-            entries: ArrayVec::new(),
+            entries: [unused; 32],
+            len: 0,
         }
     }
 
@@ -59,17 +75,19 @@ impl RoamingList {
         ensures list { entries_in self.new ≡ after (roamed (entries_in self.old) digits.now class) (entries_in self.old) }
     {
         let entry = read_entry(digits, class)?;
-        if self.entries.is_full() {
+        let at = self.len;
+        if at >= 32 {
             return Err(RoamFault::ListFull);
         }
-        self.entries.push(entry);
+        self.entries[at] = entry;
+        self.len = at + 1;
         Ok(())
     }
 
     pub fn as_slice(&self) -> &[Entry]
         ensures { result.now ≡ entries_in self.now }
     {
-        self.entries.as_slice()
+        &self.entries[..self.len]
     }
 
     // The class of a node, by the entry that decides.

@@ -1,8 +1,12 @@
-use super::entry::Entry;
-use arrayvec::ArrayVec;
+ghost use Rattle.std.specs.Prelude.{◌≡◌, ℕ, ◌≤◌, length};
 
-// Up to 32 entries, in the order in which they were added.
-#[derive(Clone, Drop)]
+use super::entry::Entry;
+
+// Up to 32 entries, in the order in which they were added. No ArrayVec: that one is not `Copy`.
+#[derive(Clone, Copy)]
 pub struct RoamingList {
-    pub entries: ArrayVec<Entry, 32>,
+    pub entries: [Entry; 32],
+    pub len: usize,
+    ghost whole: { length entries ≡ 32 },
+    ghost few: { len ≤ 32 },
 }

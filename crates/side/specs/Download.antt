@@ -5,6 +5,7 @@ use Rattle.message.specs.declared.kinds.Service.{Service}
 use Rattle.message.specs.declared.kinds.Service.TheVariants.{Bearer, Teleservice}
 use Rattle.message.specs.Messages.{codes_insert}
 use Rattle.subscription.specs.declared.profile.Profile.{Profile}
+use Rattle.subscription.specs.Codes.{codes_in}
 use Rattle.side.specs.Meaning.{Meaning}
 
 -- the codes that are left whenever ten more have been sent, once k are passed over
@@ -26,7 +27,7 @@ abbrev pub later : List ℕ → List ℕ → List (List ℕ)
 later bs ts = numbered 2 Bearer (by_tens bs) ++ numbered (2 + length (by_tens bs)) Teleservice (by_tens ts)
 
 unfoldable pub download : {S : Type 0} → Meaning S → Option Imsi → Profile → List (List ℕ)
-download side i p = side.first i p ∷ later (side.bearers p) p.teleservices.codes
+download side i p = side.first i p ∷ later (side.bearers p) (codes_in p.teleservices)
 
 -- insert n, counted from 1
 abbrev pub insert_at : List (List ℕ) → ℕ → Option (List ℕ)

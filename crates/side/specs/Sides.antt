@@ -12,6 +12,7 @@ use Rattle.subscription.specs.declared.stay.Location.{Location}
 use Rattle.subscription.specs.declared.stay.PacketStay.{PacketStay}
 use Rattle.subscription.specs.declared.stay.Record.{Record}
 use Rattle.subscription.specs.Stay.{no_circuit, no_packet}
+use Rattle.subscription.specs.Codes.{codes_in}
 use Rattle.side.specs.Meaning.{Meaning}
 
 abbrev pub node_with : Digits → NodeNumber
@@ -45,7 +46,7 @@ circuit_meaning = record {
   unserved = ImsiUnknown;
   operation = UpdateLocation;
   first = λ i p. circuit_insert i p.msisdn p.category;
-  bearers = λ p. p.bearers.codes;
+  bearers = λ p. codes_in p.bearers;
 }
 
 -- the node is the SGSN

@@ -1,5 +1,6 @@
 // Downloads: which inserts a side is sent, one text for both.
 ghost use Rattle.std.specs.Prelude.{◌≡◌, ℕ, ◌+◌, ◌*◌, ◌<◌, ◌≤◌, length, take, drop, slice_get, IfSome, IfNone};
+ghost use Rattle.subscription.specs.Codes.{codes_in};
 ghost use Rattle.side.specs.Download.{by_tens, download, insert_at, later, numbered};
 
 use super::side::Side;
@@ -12,10 +13,10 @@ use subscription::profile::Profile;
 
 // How many inserts send codes by tens.
 fn count(codes: &CodeList) -> u8
-    ensures count { result ≡ length (by_tens codes.now.codes) }
+    ensures count { result ≡ length (by_tens (codes_in codes.now)) }
     ensures few { result ≤ 2 }
 {
-    codes.codes.len().div_ceil(10) as u8
+    codes.as_slice().len().div_ceil(10) as u8
 }
 
 // The ten codes at an index, fewer at the end; none past the last.
@@ -29,7 +30,7 @@ fn ten_at(codes: &[u8], index: usize) -> Option<&[u8]>
 // The insert at an index among those with codes of one kind, of which the first has the number `first`.
 fn codes_at(first: u8, service: Service, codes: &CodeList, index: u8) -> Option<Message>
     requires { first + index < 256 }
-    ensures { result ≡ slice_get (numbered first service (by_tens codes.now.codes)) index }
+    ensures { result ≡ slice_get (numbered first service (by_tens (codes_in codes.now))) index }
 {
     let ten = ten_at(codes.as_slice(), index as usize)?;
     Some(codes_insert(first + index, service, ten))
@@ -38,7 +39,7 @@ fn codes_at(first: u8, service: Service, codes: &CodeList, index: u8) -> Option<
 // The insert at an index after the first: bearer codes, then teleservice codes.
 fn later_insert(bearers: &CodeList, teleservices: &CodeList, index: u8) -> Option<Message>
     requires { 2 + index < 256 }
-    ensures { result ≡ slice_get (later bearers.now.codes teleservices.now.codes) index }
+    ensures { result ≡ slice_get (later (codes_in bearers.now) (codes_in teleservices.now)) index }
 {
     let before = count(bearers);
     if index < before {

@@ -2,6 +2,7 @@
 ghost use Rattle.std.specs.Prelude.{◌≡◌};
 ghost use Rattle.subscription.specs.declared.stay.Record.{Record as Subscriber};
 ghost use Rattle.subscription.specs.declared.stay.Location.{Location as Place};
+ghost use Rattle.subscription.specs.Codes.{codes_in};
 ghost use Rattle.side.specs.Meaning.{Meaning};
 
 use message::kinds::AccessMode;
@@ -61,7 +62,7 @@ pub trait Side {
 
     // The bearer codes that a download sends.
     fn bearers(profile: &Profile) -> CodeList
-        ensures { result.codes ≡ meaning.bearers profile.now };
+        ensures { codes_in result ≡ meaning.bearers profile.now };
 
     // a side of a record that is replaced is what replaced it, and the rest of the record stays
     ghost located: { (r : Subscriber) (l : Place Self.Stay) → meaning.location (meaning.replaced r l) ≡ l };

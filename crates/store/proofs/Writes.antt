@@ -6,7 +6,7 @@ use Rattle.std.specs.Option.{option_or}
 use Rattle.std.proofs.lemmas.Bool.{cond-true, cond-false, and_parts, and_from, false≢true, true≢false, lt-ltb, ltb-false}
 use Rattle.std.proofs.lemmas.List.Quantifiers.{position-Some}
 use Rattle.std.proofs.lemmas.List.Folds.{sum_by-replicate}
-use Rattle.std.proofs.lemmas.List.Sums.{fails_before_first, sum_by-set}
+use Rattle.std.proofs.lemmas.List.Sums.{fails_before_first, sum_by-cons, sum_by-set}
 use Rattle.numbers.specs.declared.imsi.Imsi.{Imsi}
 use Rattle.subscription.specs.declared.stay.Record.{Record}
 use Rattle.store.specs.Calls.{accepted, imsi_found, places_after, Put, Deleted}
@@ -16,6 +16,18 @@ use Rattle.store.proofs.Keys.{same_decides, same_flip, place_same}
 
 abbrev lookup : List Row → Imsi → Option Record
 lookup ws = record_of (records_in ws)
+
+-- each row holds a record or is free
+pub records_count : (ws : List Row) → length (records_in ws) + unused ws ≡ length ws
+records_count [] = refl
+records_count (None ∷ ws) =
+    let h = records_count ws in
+    let held : length (records_in (None ∷ ws)) ≡ length (records_in ws) = refl in
+    let free : unused (None ∷ ws) ≡ 1 + unused ws = sum_by-cons (λ w. cond (is_none w) 1 0) None ws in omega arith
+records_count (Some r ∷ ws) =
+    let h = records_count ws in
+    let held : length (records_in (Some r ∷ ws)) ≡ suc (length (records_in ws)) = refl in
+    let free : unused (Some r ∷ ws) ≡ 0 + unused ws = sum_by-cons (λ w. cond (is_none w) 1 0) (Some r) ws in omega arith
 
 -- what is found in rows, the first one apart
 front : (w : Row) (ws : List Row) (q : Imsi) → lookup (w ∷ ws) q ≡ cond (has q w) w (lookup ws q)

@@ -1,3 +1,4 @@
 pub mod Records
 pub mod Calls
 pub mod Rows
+pub mod Laws

@@ -2,5 +2,6 @@
 #![tactic(auto)]
 
 pub mod interface;
+pub mod laws;
 pub mod row;
 pub mod rows;

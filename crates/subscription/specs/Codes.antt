@@ -1,16 +1,31 @@
 -- Values of the type CodeList.
-use Rattle.std.specs.Prelude.{◌≡◌, ℕ, Bool, true, false, List, length, nat_le, Ok, Err, Result, refl}
+use Rattle.std.specs.Prelude.{◌≡◌, ℕ, ◌≤◌, Bool, true, false, List, length, take, nat_le, Ok, Err, Result, refl}
+use Rattle.std.proofs.Common.{ap, ◌∙◌}
 use Rattle.std.proofs.lemmas.Bool.{leb-true, and_parts}
+use Rattle.octets.specs.Padding.{filled}
+use Rattle.octets.proofs.Filled.{laws}
 use Rattle.subscription.specs.declared.code_list.CodeList.{CodeList}
 use Rattle.subscription.specs.declared.profile.SubscriptionFault.{SubscriptionFault}
 use Rattle.subscription.specs.declared.profile.SubscriptionFault.TheVariants.{OutOfRange}
 use Rattle.subscription.specs.Once.{listable, once}
 
--- the list of these codes
+-- the codes that a list holds, in their order
+abbrev pub codes_in : CodeList → List ℕ
+codes_in l = take l.len l.codes
+
+pub few : (cs : List ℕ) → listable cs ≡ true → length cs ≤ 20
+few cs e = leb-true (length cs) 20 (and_parts (nat_le (length cs) 20) (once cs) e).0
+
+-- the list of these codes: twenty places hold them, then zeros; after the places and the count stand proofs, which a reader need not believe
 abbrev pub listed : (cs : List ℕ) → listable cs ≡ true → CodeList
-listed cs e =
-    let parts = and_parts (nat_le (length cs) 20) (once cs) e in
-    record { codes = cs; few = leb-true (length cs) 20 parts.0; apart = parts.1 }
+listed cs e = record {
+  codes = filled 20 cs;
+  len = length cs;
+  whole = laws.whole 20 cs (few cs e);
+  few = few cs e;
+  apart = ap once (laws.held 20 cs) ∙ (and_parts (nat_le (length cs) 20) (once cs) e).1;
+  padded = laws.padded 20 cs;
+}
 
 abbrev pub held : (cs : List ℕ) (b : Bool) → listable cs ≡ b → Result CodeList SubscriptionFault
 held cs true e = Ok (listed cs e)

@@ -1,11 +1,10 @@
 // Lists of service codes.
 ghost use Rattle.std.specs.Prelude.{◌≡◌, []};
-ghost use Rattle.subscription.specs.Codes.{codes_of};
+ghost use Rattle.subscription.specs.Codes.{codes_in, codes_of};
 ghost use Rattle.subscription.specs.Once.{listable, once};
 
 use super::code_list::CodeList;
 use super::profile::SubscriptionFault;
-use octets::list::Octets;
 
 // Whether no code stands twice. A recursion: of a chain over `enumerate` with the rest of the slice nothing was proved.
 fn all_once(codes: &[u8]) -> bool
@@ -26,10 +25,11 @@ fn are_listable(codes: &[u8]) -> bool
 
 impl CodeList {
     pub fn empty() -> CodeList
-        ensures { result.codes ≡ [] }
+        ensures { codes_in result ≡ [] }
     {
         CodeList {
-            codes: Octets::new(),
+            codes: [0; 20],
+            len: 0,
         }
     }
 
@@ -40,14 +40,15 @@ impl CodeList {
         if !are_listable(octets) {
             return Err(SubscriptionFault::OutOfRange);
         }
-        let mut codes = Octets::new();
-        codes.try_extend_from_slice(octets).unwrap();
-        Ok(CodeList { codes })
+        let len = octets.len();
+        let mut codes = [0; 20];
+        codes[..len].copy_from_slice(octets);
+        Ok(CodeList { codes, len })
     }
 
     pub fn as_slice(&self) -> &[u8]
-        ensures { result.now ≡ self.now.codes }
+        ensures { result.now ≡ codes_in self.now }
     {
-        self.codes.as_slice()
+        &self.codes[..self.len]
     }
 }

@@ -130,14 +130,12 @@ impl Held {
 #[test]
 fn lmsi_and_address(rt: HostRuntime) -> Result<(), Fail> {
     for row in &HELD {
-        match read_invoke(row.octets) {
-            Ok(
-                Invoke {
-                    argument: Ok(argument),
-                    ..
-                },
-            ) => row.check(&rt, argument)?,
-            _ => return Err(Fail::new("no update")),
+        let Ok(invoke) = read_invoke(row.octets) else {
+            return Err(Fail::new("refused"));
+        };
+        match invoke.argument {
+            Ok(argument) => row.check(&rt, argument)?,
+            Err(_) => return Err(Fail::new("no update")),
         }
     }
     Ok(())

@@ -1,5 +1,5 @@
 // What invokes are answered with, and invokes put together from the elements of their arguments.
-use component::invoke::{Invoke, read_invoke};
+use component::invoke::read_invoke;
 use operation::user_error::UserError;
 use std::alloc::Global;
 use std::process::Abort;
@@ -8,18 +8,10 @@ use std::test::*;
 // The number of the error that answers an invoke; none where its argument is read.
 pub fn error_of(octets: &[u8]) -> Result<Option<u8>, Fail> {
     match read_invoke(octets) {
-        Ok(
-            Invoke {
-                argument: Ok(_),
-                ..
-            },
-        ) => Ok(None),
-        Ok(
-            Invoke {
-                argument: Err(fault),
-                ..
-            },
-        ) => Ok(Some(UserError::from(fault).number())),
+        Ok(invoke) => match invoke.argument {
+            Ok(_) => Ok(None),
+            Err(fault) => Ok(Some(UserError::from(fault).number())),
+        },
         Err(_) => Err(Fail::new(format_args!("refused: {octets:?}"))),
     }
 }

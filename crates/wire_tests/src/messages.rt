@@ -83,20 +83,20 @@ fn inserts_of_codes(rt: HostRuntime) -> Result<(), Fail> {
 #[rattlefmt::skip]
 #[test]
 fn cancels(rt: HostRuntime) -> Result<(), Fail> {
-    let imsi = &imsi(&IMSI)?;
-    check_octets(&rt, cancel_location(*imsi, None, CancelType::UpdateProcedure), &[
+    let imsi = imsi(&IMSI)?;
+    check_octets(&rt, cancel_location(imsi, None, CancelType::UpdateProcedure), &[
         0xA1, 21, 0x02, 1, 1, 0x02, 1, 3, 0xA3, 13,
         0x04, 8, 0x00, 0x01, 0x01, 0x21, 0x43, 0x65, 0x87, 0xF9, 0x0A, 1, 0,
     ])?;
-    check_octets(&rt, cancel_location(*imsi, None, CancelType::SubscriptionWithdraw), &[
+    check_octets(&rt, cancel_location(imsi, None, CancelType::SubscriptionWithdraw), &[
         0xA1, 21, 0x02, 1, 1, 0x02, 1, 3, 0xA3, 13,
         0x04, 8, 0x00, 0x01, 0x01, 0x21, 0x43, 0x65, 0x87, 0xF9, 0x0A, 1, 1,
     ])?;
-    check_octets(&rt, cancel_location(*imsi, Some(LMSI), CancelType::UpdateProcedure), &[
+    check_octets(&rt, cancel_location(imsi, Some(LMSI), CancelType::UpdateProcedure), &[
         0xA1, 29, 0x02, 1, 1, 0x02, 1, 3, 0xA3, 21, 0x30, 16,
         0x04, 8, 0x00, 0x01, 0x01, 0x21, 0x43, 0x65, 0x87, 0xF9, 0x04, 4, 0xDE, 0xAD, 0xBE, 0xEF, 0x0A, 1, 0,
     ])?;
-    check_octets(&rt, cancel_location(*imsi, Some(LMSI), CancelType::SubscriptionWithdraw), &[
+    check_octets(&rt, cancel_location(imsi, Some(LMSI), CancelType::SubscriptionWithdraw), &[
         0xA1, 29, 0x02, 1, 1, 0x02, 1, 3, 0xA3, 21, 0x30, 16,
         0x04, 8, 0x00, 0x01, 0x01, 0x21, 0x43, 0x65, 0x87, 0xF9, 0x04, 4, 0xDE, 0xAD, 0xBE, 0xEF, 0x0A, 1, 1,
     ])

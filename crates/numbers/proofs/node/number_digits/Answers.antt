@@ -9,3 +9,7 @@ returns-in-145 c = c.unpack.ensures ∙ number_at c.args.octets.now (search rule
 pub returns-in_default : goal.returns-in_default
 unfolding number_of
 returns-in_default c = search rules
+
+pub returns-in_default-2 : goal.returns-in_default-2
+unfolding number_of
+returns-in_default-2 c = search rules

@@ -2,7 +2,7 @@ use Rattle.std.proofs.Common.{◌≡◌, suc, ◌/◌, ◌%◌, ◌++◌, ◌∷
 use Rattle.std.proofs.lemmas.List.{nil_from_length, append_assoc, length-append, take_all}
 use Rattle.numbers.specs.Packing.{decimal, unpacked}
 use Rattle.numbers.specs.Digit.{digits_of}
-use Rattle.numbers.proofs.Held.{none_of_none, decimal_push, digital_push, value_of}
+use Rattle.numbers.proofs.Held.{none_of_none, decimal_push, digital_push}
 use Rattle.numbers.proofs.Halves.{halves, halves_more, refused, unpacked_at, unpacked_filled, unpacked_last, unpacked_whole}
 use Rattle.numbers.proofs.digits.Digits.unpack.Goals.{then-last-ne15+in_ok-push_digit-4, else-last-ne15}
 use Rattle.numbers.proofs.digits.Digits.unpack.Goals as goal
@@ -72,16 +72,16 @@ returns-in_err-push_digit-4 c =
     (unpacked_whole bs b c.if-last-ne15.true
     ∙ sym (ap (λ ds. ds ++ b / 16 ∷ []) more ∙ append_assoc c.loop-octet.digits (b % 16 ∷ []) (b / 16 ∷ []) ∙ ap (λ ds. ds ++ b % 16 ∷ b / 16 ∷ []) front)) c.in_err-push_digit-4.ensures.room.1
 
-pub invariant_of-result : goal.invariant_of-result
-invariant_of-result c =
+pub holding-requires : goal.holding-requires
+holding-requires c =
     let ds = c.loop-octet.digits in
     let b = c.in_ok-last.last.now in
     let first = c.in_ok-push_digit-3.ensures.more in
     let room = c.in_ok-push_digit-3.ensures.room.0 refl in
     elim c.if-last-ne15.branch [
       | then-last-ne15+in_ok-push_digit-4 w ↦
-          record { digital = digital_push c.push_digit-2.new.digits (b / 16) _ (w.digits-is ∙ w.in_ok-push_digit-4.ensures.more) (ap decimal first ∙ decimal_push ds (b % 16) c.loop-octet.invariant.1 room.0) (w.in_ok-push_digit-4.ensures.room.0 refl) }
-      | else-last-ne15 w ↦ record { digital = digital_push ds (b % 16) _ (w.digits-is ∙ first) c.loop-octet.invariant.1 room }
+          digital_push c.push_digit-2.new.digits (b / 16) _ (w.digits-is ∙ w.in_ok-push_digit-4.ensures.more) (ap decimal first ∙ decimal_push ds (b % 16) c.loop-octet.invariant.1 room.0) (w.in_ok-push_digit-4.ensures.room.0 refl)
+      | else-last-ne15 w ↦ digital_push ds (b % 16) _ (w.digits-is ∙ first) c.loop-octet.invariant.1 room
     ]
 
 pub returns : goal.returns
@@ -92,7 +92,7 @@ returns c =
     let first = c.in_ok-push_digit-3.ensures.more in
     let front : ds ≡ halves bs = c.loop-octet.invariant.0 ∙ ap halves (take_all c.loop-octet.octet-index bs (omega arith)) in
     let whole = ap unpacked c.in_ok-last.ensures.cases.0 in
-    value_of (unpacked c.args.octets.now) _ (elim c.if-last-ne15.branch [
+    c.holding.ensures ∙ ap digits_of (elim c.if-last-ne15.branch [
       | then-last-ne15+in_ok-push_digit-4 w ↦
           w.digits-is ∙ w.in_ok-push_digit-4.ensures.more ∙ ap (λ es. es ++ b / 16 ∷ []) first ∙ append_assoc ds (b % 16 ∷ []) (b / 16 ∷ [])
           ∙ ap (λ es. es ++ b % 16 ∷ b / 16 ∷ []) front ∙ sym (whole ∙ unpacked_whole bs b w.if-last-ne15.true)

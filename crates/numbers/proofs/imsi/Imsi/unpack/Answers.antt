@@ -1,4 +1,5 @@
-use Rattle.std.proofs.Common.{length, refl, ap, arith}
+use Rattle.std.proofs.Common.{length, refl, ap, ◌∙◌, arith}
+use Rattle.numbers.proofs.Held.{count}
 use Rattle.numbers.proofs.Numbered.{imsi_long, imsi_short, imsi_none}
 use Rattle.numbers.proofs.imsi.Imsi.unpack.Goals as goal
 
@@ -9,4 +10,4 @@ pub returns-then-as_slice-ge5 : goal.returns-then-as_slice-ge5
 returns-then-as_slice-ge5 c = imsi_long c.args.octets.now c.in_ok-digits.digits _ c.in_ok-digits.ensures refl
 
 pub returns-else-as_slice-ge5 : goal.returns-else-as_slice-ge5
-returns-else-as_slice-ge5 c = imsi_short c.args.octets.now c.in_ok-digits.digits c.in_ok-digits.ensures (let n = ap length c.as_slice.ensures.digits in omega arith)
+returns-else-as_slice-ge5 c = imsi_short c.args.octets.now c.in_ok-digits.digits c.in_ok-digits.ensures (let n = ap length c.as_slice.ensures.digits ∙ count c.in_ok-digits.digits in omega (arith, n))
