@@ -36,7 +36,7 @@ fn parse_words(heap: Global, words: &[&str]) -> Result<Option<Command>, LineFaul
         ["own", number] => Command::Own(number_octets(heap, number)?),
         ["roam", digits, class] => Command::Roam(digit_octets(heap, digits)?, small(class)?),
         ["roams", node, bar] => {
-            // The bar first: a line that is not understood for it asks for no memory.
+            // The bar first: a line that is not understood for it asks for no more memory.
             let bar = small(bar)?;
             Command::Roams(number_octets(heap, node)?, bar)
         }

@@ -27,9 +27,6 @@ same d e h = same_fields d e (places d ∙ ap (filled 15) h ∙ sym (places e)) 
 pub some : (ds : List ℕ) → digital ds ≡ true → 1 ≤ length ds
 some ds e = leb-true 1 (length ds) (and_parts (leb 1 (length ds)) (leb (length ds) 15) (and_parts (decimal ds) _ e).1).0
 
-pub few : (ds : List ℕ) → digital ds ≡ true → length ds ≤ 15
-few ds e = leb-true (length ds) 15 (and_parts (leb 1 (length ds)) (leb (length ds) 15) (and_parts (decimal ds) _ e).1).1
-
 pub all_decimal : (ds : List ℕ) → digital ds ≡ true → decimal ds ≡ true
 all_decimal ds e = (and_parts (decimal ds) _ e).0
 

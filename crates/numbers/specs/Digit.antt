@@ -12,6 +12,7 @@ use Rattle.numbers.specs.Packing.{decimal, digital}
 abbrev pub digits_in : Digits → List ℕ
 digits_in d = take d.len d.digits
 
+-- as many digits as have places
 pub few : (ds : List ℕ) → digital ds ≡ true → length ds ≤ 15
 few ds e = leb-true (length ds) 15 (and_parts (nat_le 1 (length ds)) (nat_le (length ds) 15) (and_parts (decimal ds) (nat_le 1 (length ds) && nat_le (length ds) 15) e).1).1
 

@@ -46,13 +46,9 @@ impl Digits {
         requires { digital digits.now ≡ true }
         ensures { Some result ≡ digits_of digits.now }
     {
-        let held = digits.as_slice();
-        let len = held.len();
-        let mut digits = [0; 15];
-        digits[..len].copy_from_slice(held);
         Digits {
-            digits,
-            len: len as u8,
+            digits: digits.to_array(),
+            len: digits.len() as u8,
         }
     }
 

@@ -11,7 +11,7 @@ use std::marker::Model;
 pub struct Full;
 
 // Up to N octets, seen as the list of them. The places past them hold 0.
-// The one buffer here with a length beside it. No ArrayVec: values with octets in them are copied, compared and named by definitions, and that one is not Copy.
+// No ArrayVec: messages are copied, compared and named by definitions, and that one is not Copy.
 #[derive(Clone, Copy)]
 pub struct Octets<const N: usize> {
     held: [u8; N],
@@ -35,6 +35,8 @@ impl<const N: usize> Model for Octets<N> {
 }
 
 impl<const N: usize> Octets<N> {
+    ghost use Rattle.octets.specs.Padding.{filled};
+
     pub fn new() -> Octets<N>
         ensures { result ≡ [] }
     {
@@ -49,6 +51,13 @@ impl<const N: usize> Octets<N> {
         ensures few { length result.now ≤ N }
     {
         &self.held[..self.len]
+    }
+
+    // All N places: the octets, then zeros.
+    pub fn to_array(&self) -> [u8; N]
+        ensures { result ≡ filled N self.now }
+    {
+        self.held
     }
 
     pub fn len(&self) -> usize

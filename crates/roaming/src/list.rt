@@ -35,7 +35,7 @@ fn better_of<'a>(best: Option<&'a Entry>, entry: &'a Entry, node: &Digits) -> Op
     }
 }
 
-// The entry that decides for a node, if there is one. A loop over what is lent: under a fold the best so far was copied at each entry, which took half as long again.
+// The entry that decides for a node, if there is one. A loop over what is lent: under a fold the best so far was copied at each entry, which took a quarter as long again.
 fn deciding_entry<'a>(entries: &'a [Entry], node: &Digits) -> Option<&'a Entry>
     ensures { lent result ≡ deciding (digits_in node.now) entries.now }
 {

@@ -13,6 +13,7 @@ use Rattle.subscription.specs.Once.{listable, once}
 abbrev pub codes_in : CodeList → List ℕ
 codes_in l = take l.len l.codes
 
+-- as many codes as have places
 pub few : (cs : List ℕ) → listable cs ≡ true → length cs ≤ 20
 few cs e = leb-true (length cs) 20 (and_parts (nat_le (length cs) 20) (once cs) e).0
 
