@@ -1,11 +1,16 @@
 -- Octets and elements written into a message, and the message copied into a buffer.
-use Rattle.std.specs.Prelude.{ℕ, cond, List, [], ◌∷◌, ◌++◌, length, drop, Some, None, Option, nat_lt}
+use Rattle.std.specs.Prelude.{ℕ, cond, List, [], ◌∷◌, ◌++◌, length, take, drop, Some, None, Option, nat_lt}
 use Rattle.std.specs.List.{flat_map}
 use Rattle.numbers.specs.declared.imsi.Imsi.{Imsi}
 use Rattle.numbers.specs.Digit.{digits_in}
 use Rattle.numbers.specs.Packing.{packed}
 use Rattle.operation.specs.declared.codes.Operation.{Operation}
 use Rattle.operation.specs.Codes.{operation_number, argument_tag}
+use Rattle.message.specs.declared.message.Message.{Message}
+
+-- the octets of a message
+abbrev pub written : Message → List ℕ
+written m = take m.len m.octets
 
 -- an element with a one-octet length
 abbrev pub coded : ℕ → List ℕ → List ℕ

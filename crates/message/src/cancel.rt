@@ -1,6 +1,7 @@
 // Cancel Location, operation 3.
-ghost use Rattle.std.specs.Prelude.{◌≡◌, ◌≤◌, length};
+ghost use Rattle.std.specs.Prelude.{◌≡◌, ◌≤◌};
 ghost use Rattle.message.specs.Messages.{cancel, identity};
+ghost use Rattle.message.specs.Writing.{written};
 
 use super::kinds::CancelType;
 use super::message::Message;
@@ -11,8 +12,8 @@ use operation::codes::Operation;
 
 // Whom a cancel is about: 04 IMSI or, if the stay has an LMSI, 30 holding 04 IMSI and 04 LMSI.
 fn identity_element(imsi: Imsi, lmsi: Option<Lmsi>) -> Message
-    ensures all { result ≡ identity imsi lmsi }
-    ensures size { length result ≤ 18 }
+    ensures all { written result ≡ identity imsi lmsi }
+    ensures size { result.len ≤ 18 }
 {
     let mut message = Message::empty();
     match lmsi {
@@ -29,7 +30,7 @@ fn identity_element(imsi: Imsi, lmsi: Option<Lmsi>) -> Message
 
 // A cancel is the first and only invoke of its dialogue.
 pub fn cancel_location(imsi: Imsi, lmsi: Option<Lmsi>, reason: CancelType) -> Message
-    ensures { result ≡ cancel imsi lmsi reason }
+    ensures { written result ≡ cancel imsi lmsi reason }
 {
     let mut argument = identity_element(imsi, lmsi);
     argument.put(0x0A, &[u8::from(reason)]);

@@ -1,7 +1,7 @@
 // Insert Subscriber Data, operation 7: what a download is made of.
-ghost use Rattle.std.specs.Prelude.{◌≡◌, ◌*◌, ◌≤◌, length, take};
+ghost use Rattle.std.specs.Prelude.{◌≡◌, ℕ, ◌+◌, ◌*◌, ◌≤◌, ◌++◌, length, take};
 ghost use Rattle.message.specs.Messages.{circuit_insert, codes_insert, packet_insert};
-ghost use Rattle.message.specs.Writing.{codes_in};
+ghost use Rattle.message.specs.Writing.{codes_in, written};
 
 use super::kinds::{AccessMode, Service};
 use super::message::Message;
@@ -12,7 +12,7 @@ use operation::codes::Operation;
 
 // Insert 1 for the circuit side. The IMSI stands in front in a dialogue that the register itself starts.
 pub fn circuit_insert(imsi: Option<Imsi>, msisdn: Msisdn, category: u8) -> Message
-    ensures { result ≡ circuit_insert imsi msisdn category }
+    ensures { written result ≡ circuit_insert imsi msisdn category }
 {
     let mut argument = Message::empty();
     argument.put_optional_imsi(imsi);
@@ -24,7 +24,7 @@ pub fn circuit_insert(imsi: Option<Imsi>, msisdn: Msisdn, category: u8) -> Messa
 
 // Insert 1 for the packet side. Apart from the circuit side's: other elements stand in it, in other places.
 pub fn packet_insert(imsi: Option<Imsi>, msisdn: Msisdn, mode: AccessMode) -> Message
-    ensures { result ≡ packet_insert imsi msisdn mode }
+    ensures { written result ≡ packet_insert imsi msisdn mode }
 {
     let mut argument = Message::empty();
     argument.put_optional_imsi(imsi);
@@ -34,17 +34,17 @@ pub fn packet_insert(imsi: Option<Imsi>, msisdn: Msisdn, mode: AccessMode) -> Me
     invoke(1, Operation::InsertSubscriberData, argument.as_slice())
 }
 
-// Up to ten codes, each 04 01 and the octet.
-fn code_elements(codes: &[u8]) -> Message
-    requires { length codes.now ≤ 10 }
-    ensures all { result ≡ codes_in codes.now }
-    ensures size { length result ≡ 3 * length codes.now }
-{
-    let mut elements = Message::empty();
-    for code in codes {
-        elements.put(0x04, &[*code]);
+impl Message {
+    // Codes, each 04 01 and the octet.
+    fn put_codes(&mut self, codes: &[u8])
+        requires { self.old.len + 3 * length codes.now ≤ 256 }
+        ensures more { written self.new ≡ written self.old ++ codes_in codes.now }
+        ensures size { self.new.len ≡ self.old.len + 3 * length codes.now }
+    {
+        for code in codes {
+            self.put(0x04, &[*code]);
+        }
     }
-    elements
 }
 
 // Ten codes, or all if there are fewer.
@@ -57,9 +57,11 @@ fn next_ten(left: &[u8]) -> &[u8]
 
 // A later insert: the next ten of the codes that are left, or all of them.
 pub fn codes_insert(id: u8, service: Service, left: &[u8]) -> Message
-    ensures { result ≡ codes_insert id service left.now }
+    ensures { written result ≡ codes_insert id service left.now }
 {
-    let codes = code_elements(next_ten(left));
-    let argument = Message::element(service.tag(), codes.as_slice());
+    let ten = next_ten(left);
+    let mut argument = Message::empty();
+    argument.head(service.tag(), 3 * ten.len());
+    argument.put_codes(ten);
     invoke(id, Operation::InsertSubscriberData, argument.as_slice())
 }

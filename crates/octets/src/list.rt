@@ -11,7 +11,7 @@ use std::marker::Model;
 pub struct Full;
 
 // Up to N octets, seen as the list of them. The places past them hold 0.
-// No ArrayVec: messages are copied, compared and named by definitions, and that one is not Copy.
+// No ArrayVec: packed digits are copied, and that one is not Copy.
 #[derive(Clone, Copy)]
 pub struct Octets<const N: usize> {
     held: [u8; N],

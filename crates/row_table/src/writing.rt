@@ -11,9 +11,13 @@ pub(crate) fn write(rows: &mut [Row], at: usize, row: Row)
     rows[at] = row;
 }
 
-// No row holds a record.
+// No row holds a record. The free rows at the end are only looked at: to write `None` fills the whole row, about 200 octets, and not just its tag.
 pub(crate) fn free_all(rows: &mut [Row])
     ensures { rows.new ≡ replicate (length rows.old) None }
 {
-    rows.fill(None);
+    let mut used = rows.len();
+    while used > 0 && rows[used - 1].is_none() {
+        used -= 1;
+    }
+    rows[..used].fill(None);
 }

@@ -1,5 +1,7 @@
 // Downloads: which inserts a side is sent, one text for both.
 ghost use Rattle.std.specs.Prelude.{◌≡◌, ℕ, ◌+◌, ◌*◌, ◌<◌, ◌≤◌, length, take, drop, slice_get, IfSome, IfNone};
+ghost use Rattle.std.specs.Option.{option_map};
+ghost use Rattle.message.specs.Writing.{written};
 ghost use Rattle.subscription.specs.Codes.{codes_in};
 ghost use Rattle.side.specs.Download.{by_tens, download, insert_at, later, numbered};
 
@@ -30,7 +32,7 @@ fn ten_at(codes: &[u8], index: usize) -> Option<&[u8]>
 // The insert at an index among those with codes of one kind, of which the first has the number `first`.
 fn codes_at(first: u8, service: Service, codes: &CodeList, index: u8) -> Option<Message>
     requires { first + index < 256 }
-    ensures { result ≡ slice_get (numbered first service (by_tens (codes_in codes.now))) index }
+    ensures { option_map written result ≡ slice_get (numbered first service (by_tens (codes_in codes.now))) index }
 {
     let ten = ten_at(codes.as_slice(), index as usize)?;
     Some(codes_insert(first + index, service, ten))
@@ -39,7 +41,7 @@ fn codes_at(first: u8, service: Service, codes: &CodeList, index: u8) -> Option<
 // The insert at an index after the first: bearer codes, then teleservice codes.
 fn later_insert(bearers: &CodeList, teleservices: &CodeList, index: u8) -> Option<Message>
     requires { 2 + index < 256 }
-    ensures { result ≡ slice_get (later (codes_in bearers.now) (codes_in teleservices.now)) index }
+    ensures { option_map written result ≡ slice_get (later (codes_in bearers.now) (codes_in teleservices.now)) index }
 {
     let before = count(bearers);
     if index < before {
@@ -56,7 +58,7 @@ fn later_insert(bearers: &CodeList, teleservices: &CodeList, index: u8) -> Optio
 
 // Insert `id` of a download, counted from 1; none past the last. The IMSI stands in front in a dialogue that the register itself starts.
 pub fn insert<D: Side>(imsi: Option<Imsi>, profile: &Profile, id: u8) -> Option<Message>
-    ensures { result ≡ insert_at (download D.Side.meaning imsi profile.now) id }
+    ensures { option_map written result ≡ insert_at (download D.Side.meaning imsi profile.now) id }
 {
     match id {
         0 => None,

@@ -2,6 +2,7 @@
 ghost use Rattle.std.specs.Prelude.{◌≡◌};
 ghost use Rattle.subscription.specs.declared.stay.Record.{Record as Subscriber};
 ghost use Rattle.subscription.specs.declared.stay.Location.{Location as Place};
+ghost use Rattle.message.specs.Writing.{written};
 ghost use Rattle.subscription.specs.Codes.{codes_in};
 ghost use Rattle.side.specs.Meaning.{Meaning};
 
@@ -58,7 +59,7 @@ pub trait Side {
 
     // Insert 1 of a download, for a subscription: the IMSI goes into the message or not, so it is no part of the profile.
     fn first(imsi: Option<Imsi>, profile: &Profile) -> Message
-        ensures { result ≡ meaning.first imsi profile.now };
+        ensures { written result ≡ meaning.first imsi profile.now };
 
     // The bearer codes that a download sends.
     fn bearers(profile: &Profile) -> CodeList

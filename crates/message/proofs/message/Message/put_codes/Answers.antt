@@ -1,0 +1,22 @@
+use Rattle.std.proofs.Common.{ℕ, ◌<◌, [], ◌∷◌, ◌++◌, length, get_or, take, sym, ap, ◌∙◌, append-nil, arith}
+use Rattle.std.proofs.lemmas.List.{flat_map_more, take_more, take_all}
+use Rattle.message.specs.Writing.{coded, codes_in, written}
+use Rattle.message.proofs.message.Message.put_codes.Goals as goal
+
+pub loop-code-init : goal.loop-code-init
+unfolding codes_in
+loop-code-init c = (omega arith, omega arith, sym (append-nil (written c.args.self.now)))
+
+pub loop-code-preserved : goal.loop-code-preserved
+unfolding codes_in
+loop-code-preserved c =
+    let cs = c.args.codes.now in
+    let w = written c.args.self.now in
+    let i = c.loop-code.code-index in
+    let h : i < length cs = omega arith in
+    let x = get_or cs i 0 in
+    (omega arith, omega arith, c.put.ensures.more ∙ ap (λ l. l ++ coded 4 (x ∷ [])) c.loop-code.invariant.2 ∙ flat_map_more (λ (n : ℕ). coded 4 (n ∷ [])) w (take i cs) x ∙ ap (λ l. w ++ codes_in l) (sym (take_more cs i 0 h)))
+
+pub returns : goal.returns
+returns c =
+    record { more = c.loop-code.invariant.2 ∙ ap (λ l. written c.args.self.now ++ codes_in l) (take_all c.loop-code.code-index c.args.codes.now (omega arith)); size = omega arith }

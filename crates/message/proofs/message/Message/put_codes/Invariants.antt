@@ -1,0 +1,7 @@
+use Rattle.std.proofs.Common.{◌≡◌, ◌+◌, ◌*◌, ◌≤◌, ◌++◌, length, take}
+use Rattle.message.specs.Writing.{codes_in, written}
+use Rattle.message.proofs.message.Message.put_codes.Given as goal
+
+abbrev pub invariant-loop-code : goal.invariant-loop-code
+invariant-loop-code l =
+    (l.code-index ≤ length l.codes) × (l.self.len ≡ l.fn.self.len + 3 * l.code-index) × (written l.self ≡ written l.fn.self ++ codes_in (take l.code-index l.codes))
