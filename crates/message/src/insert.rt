@@ -1,7 +1,7 @@
 // Insert Subscriber Data, operation 7: what a download is made of.
-ghost use Rattle.std.specs.Prelude.{◌≡◌, ℕ, ◌+◌, ◌*◌, ◌≤◌, ◌++◌, length, take};
+ghost use Rattle.std.specs.Prelude.{◌≡◌, ℕ, ◌+◌, ◌*◌, ◌<◌, ◌≤◌, ◌++◌, length, take};
 ghost use Rattle.message.specs.Messages.{circuit_insert, codes_insert, packet_insert};
-ghost use Rattle.message.specs.Writing.{codes_in, written};
+ghost use Rattle.message.specs.Writing.{coded, codes_in, written};
 
 use super::kinds::{AccessMode, Service};
 use super::message::Message;
@@ -35,12 +35,14 @@ pub fn packet_insert(imsi: Option<Imsi>, msisdn: Msisdn, mode: AccessMode) -> Me
 }
 
 impl Message {
-    // Codes, each 04 01 and the octet.
-    fn put_codes(&mut self, codes: &[u8])
-        requires { self.old.len + 3 * length codes.now ≤ 256 }
-        ensures more { written self.new ≡ written self.old ++ codes_in codes.now }
-        ensures size { self.new.len ≡ self.old.len + 3 * length codes.now }
+    // An element that holds codes, each 04 01 and the octet.
+    fn put_codes(&mut self, tag: u8, codes: &[u8])
+        requires short { 3 * length codes.now < 128 }
+        requires room { self.old.len + 2 + 3 * length codes.now ≤ 256 }
+        ensures more { written self.new ≡ written self.old ++ coded tag (codes_in codes.now) }
+        ensures size { self.new.len ≡ self.old.len + 2 + 3 * length codes.now }
     {
+        self.head(tag, 3 * codes.len());
         for code in codes {
             self.put(0x04, &[*code]);
         }
@@ -59,9 +61,7 @@ fn next_ten(left: &[u8]) -> &[u8]
 pub fn codes_insert(id: u8, service: Service, left: &[u8]) -> Message
     ensures { written result ≡ codes_insert id service left.now }
 {
-    let ten = next_ten(left);
     let mut argument = Message::empty();
-    argument.head(service.tag(), 3 * ten.len());
-    argument.put_codes(ten);
+    argument.put_codes(service.tag(), next_ten(left));
     invoke(id, Operation::InsertSubscriberData, argument.as_slice())
 }
